@@ -1,0 +1,68 @@
+-- One answer: of each public function, two answers that its promise allows are one. `Post` is the promise as the source states it.
+-- Assumes nothing.
+use Rattle.calendar.proofs.Determines.{Determines, one-answer}
+use Rattle.calendar.proofs.masks.month_at.Kinds as month-at-kinds
+use Rattle.calendar.proofs.masks.month_at.Reads as month-at
+use Rattle.calendar.proofs.masks.month_day_at.Kinds as month-day-at-kinds
+use Rattle.calendar.proofs.masks.month_day_at.Reads as month-day-at
+use Rattle.calendar.proofs.masks.month_day_from_end_at.Kinds as month-day-from-end-at-kinds
+use Rattle.calendar.proofs.masks.month_day_from_end_at.Reads as month-day-from-end-at
+use Rattle.calendar.proofs.masks.days_before_month.Kinds as days-before-month-kinds
+use Rattle.calendar.proofs.masks.days_before_month.Reads as days-before-month
+use Rattle.calendar.proofs.masks.month_length.Kinds as month-length-kinds
+use Rattle.calendar.proofs.masks.month_length.Reads as month-length
+use Rattle.calendar.proofs.utils.date_from_ordinal.Kinds as date-from-ordinal-kinds
+use Rattle.calendar.proofs.utils.date_from_ordinal.Reads as date-from-ordinal
+use Rattle.calendar.proofs.utils.is_leap_year.Kinds as is-leap-year-kinds
+use Rattle.calendar.proofs.utils.is_leap_year.Reads as is-leap-year
+use Rattle.calendar.proofs.utils.get_year_len.Kinds as get-year-len-kinds
+use Rattle.calendar.proofs.utils.get_year_len.Reads as get-year-len
+use Rattle.calendar.proofs.utils.days_before_year.Kinds as days-before-year-kinds
+use Rattle.calendar.proofs.utils.days_before_year.Reads as days-before-year
+use Rattle.calendar.proofs.utils.weekday_of_new_year.Kinds as weekday-of-new-year-kinds
+use Rattle.calendar.proofs.utils.weekday_of_new_year.Reads as weekday-of-new-year
+use Rattle.calendar.proofs.utils.year_of_day.Kinds as year-of-day-kinds
+use Rattle.calendar.proofs.utils.year_of_day.Reads as year-of-day
+use Rattle.calendar.proofs.utils.day_of_date.Kinds as day-of-date-kinds
+use Rattle.calendar.proofs.utils.day_of_date.Reads as day-of-date
+use Rattle.calendar.proofs.utils.weekday_of_day.Kinds as weekday-of-day-kinds
+use Rattle.calendar.proofs.utils.weekday_of_day.Reads as weekday-of-day
+
+pub month-at-has-one : Determines 0 month-at-kinds.ps month-at-kinds.r month-at.Post
+month-at-has-one κs a x y e f = one-answer
+
+pub month-day-at-has-one : Determines 0 month-day-at-kinds.ps month-day-at-kinds.r month-day-at.Post
+month-day-at-has-one κs a x y e f = one-answer
+
+pub month-day-from-end-at-has-one : Determines 0 month-day-from-end-at-kinds.ps month-day-from-end-at-kinds.r month-day-from-end-at.Post
+month-day-from-end-at-has-one κs a x y e f = one-answer
+
+pub days-before-month-has-one : Determines 0 days-before-month-kinds.ps days-before-month-kinds.r days-before-month.Post
+days-before-month-has-one κs a x y e f = one-answer
+
+pub month-length-has-one : Determines 0 month-length-kinds.ps month-length-kinds.r month-length.Post
+month-length-has-one κs a x y e f = one-answer
+
+pub date-from-ordinal-has-one : Determines 0 date-from-ordinal-kinds.ps date-from-ordinal-kinds.r date-from-ordinal.Post
+date-from-ordinal-has-one κs a x y e f = one-answer
+
+pub is-leap-year-has-one : Determines 0 is-leap-year-kinds.ps is-leap-year-kinds.r is-leap-year.Post
+is-leap-year-has-one κs a x y e f = one-answer
+
+pub get-year-len-has-one : Determines 0 get-year-len-kinds.ps get-year-len-kinds.r get-year-len.Post
+get-year-len-has-one κs a x y e f = one-answer
+
+pub days-before-year-has-one : Determines 0 days-before-year-kinds.ps days-before-year-kinds.r days-before-year.Post
+days-before-year-has-one κs a x y e f = one-answer
+
+pub weekday-of-new-year-has-one : Determines 0 weekday-of-new-year-kinds.ps weekday-of-new-year-kinds.r weekday-of-new-year.Post
+weekday-of-new-year-has-one κs a x y e f = one-answer
+
+pub year-of-day-has-one : Determines 0 year-of-day-kinds.ps year-of-day-kinds.r year-of-day.Post
+year-of-day-has-one κs a x y e f = one-answer
+
+pub day-of-date-has-one : Determines 0 day-of-date-kinds.ps day-of-date-kinds.r day-of-date.Post
+day-of-date-has-one κs a x y e f = one-answer
+
+pub weekday-of-day-has-one : Determines 0 weekday-of-day-kinds.ps weekday-of-day-kinds.r weekday-of-day.Post
+weekday-of-day-has-one κs a x y e f = one-answer

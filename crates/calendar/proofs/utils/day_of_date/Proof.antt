@@ -1,0 +1,53 @@
+-- `calendar::utils::day_of_date` meets its contract.
+-- Assumes nothing.
+use mathlib.Core.Path.{sym, _∙_}
+use native.Mathlib.Omega.{arith}
+use borrow.Author.Needs.{needs}
+use Rattle.calendar.specs.Calendar.{dayOfDate, firstOf}
+use Rattle.calendar.proofs.Years.{new-year-at-most}
+use Rattle.calendar.proofs.utils.day_of_date.Statement.{statement}
+use Rattle.calendar.proofs.utils.day_of_date.Tie as tie
+
+is-leap-year-requires : tie.Need-is-leap-year-requires
+is-leap-year-requires c κs = search needs
+
+days-before-month-requires : tie.Need-days-before-month-requires
+days-before-month-requires c κs = search needs
+
+cast-before : tie.Need-cast-before
+cast-before c = search needs
+
+days-before-year-requires : tie.Need-days-before-year-requires
+days-before-year-requires c κs = search needs
+
+add-result : tie.Need-add-result
+add-result c = omega (arith, new-year-at-most (c .before .before .before .args .year))
+
+one-less-requires : tie.Need-one-less-requires
+one-less-requires c κs = search needs
+
+cast-result : tie.Need-cast-result
+cast-result c = search needs
+
+add-result-2 : tie.Need-add-result-2
+add-result-2 c = omega (arith, new-year-at-most (c .before .before .before .before .args .year))
+
+returns : tie.Need-returns
+unfolding dayOfDate firstOf
+returns c =
+    let m = rw (c .before .before .before .is-leap-year .ensures) at (c .before .before .days-before-month .ensures) in
+    rw (c .before .days-before-year .ensures, m, c .one-less .ensures)
+
+pub day-of-date-spec : {M : Type 1} → statement M
+day-of-date-spec =
+    tie.close
+    (tie.spec
+    is-leap-year-requires
+    days-before-month-requires
+    cast-before
+    days-before-year-requires
+    add-result
+    one-less-requires
+    cast-result
+    add-result-2
+    returns)

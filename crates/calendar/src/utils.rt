@@ -1,0 +1,92 @@
+// Days, years and dates.
+use crate::masks;
+ghost use mathlib.Core.Path.{_≡_};
+ghost use Prim.Native.Nat.{_+_, _-_, _%_};
+ghost use Rattle.calendar.specs.Calendar.{leap, yearLength, newYear, yearOf, dayOfDate, dateOf, weekday};
+
+// A date: year, month and day of the month count from 1; length is the month's.
+pub struct Date {
+    pub year: u32,
+    pub month: u8,
+    pub day: u8,
+    pub length: u8,
+}
+
+// The date of a day.
+pub fn date_from_ordinal(day: u32) -> Date
+    ensures { λ r. ⌜ r ≡ dateOf day ⌝ }
+{
+    let year = year_of_day(day);
+    let long = is_leap_year(year);
+    let place = ((day as u64) - days_before_year(year)) as usize;
+    let month_day = masks::month_day_at(long, place);
+    Date {
+        year,
+        month: masks::month_at(long, place),
+        day: month_day,
+        length: month_day + masks::month_day_from_end_at(long, place) - 1,
+    }
+}
+
+// Whether a year has 366 days.
+pub fn is_leap_year(year: u32) -> bool
+    ensures { λ r. ⌜ r ≡ leap year ⌝ }
+{
+    year % 4 == 0 && (year % 100 != 0 || year % 400 == 0)
+}
+
+// A year's length, 365 or 366.
+pub fn get_year_len(year: u32) -> u16
+    ensures { λ r. ⌜ r ≡ yearLength year ⌝ }
+{
+    if is_leap_year(year) { 366 } else { 365 }
+}
+
+// The days before 1 January of a year; none before the year 1, nor before the year 0.
+pub fn days_before_year(year: u32) -> u64
+    ensures { λ r. ⌜ r ≡ newYear year ⌝ }
+{
+    let past = one_less(year) as u64;
+    365 * past + past / 4 - past / 100 + past / 400
+}
+
+// The number before a number, and 0 of 0.
+fn one_less(x: u32) -> u32
+    ensures { λ r. ⌜ r ≡ x - 1 ⌝ }
+{
+    if x == 0 { 0 } else { x - 1 }
+}
+
+// The weekday of 1 January, where Monday is 0.
+pub fn weekday_of_new_year(year: u32) -> u8
+    ensures { λ r. ⌜ r ≡ weekday (newYear year) ⌝ }
+{
+    (days_before_year(year) % 7) as u8
+}
+
+// The year of a day: 400 years have 146,097 days, and the year worked out from that is at most one too low.
+pub fn year_of_day(day: u32) -> u32
+    ensures { λ r. ⌜ r ≡ yearOf day ⌝ }
+{
+    let year = (400 * ((day as u64) + 2) / 146097) as u32;
+    if days_before_year(year + 1) <= day as u64 {
+        year + 1
+    } else {
+        year
+    }
+}
+
+// The day of a date.
+pub fn day_of_date(year: u32, month: u8, day: u8) -> u64
+    ensures { λ r. ⌜ r ≡ dayOfDate year month day ⌝ }
+{
+    let before = masks::days_before_month(is_leap_year(year), month) as u64;
+    days_before_year(year) + before + (one_less(day as u32) as u64)
+}
+
+// The weekday of a day, where Monday is 0.
+pub fn weekday_of_day(day: u32) -> u8
+    ensures { λ r. ⌜ r ≡ weekday day ⌝ }
+{
+    (day % 7) as u8
+}
