@@ -1,0 +1,15 @@
+pub mod Laws
+pub mod Cases
+pub mod Steps
+pub mod RunLaws
+pub mod Paths
+pub mod Kept
+pub mod Listed
+pub mod Refusals
+pub mod Chains
+pub mod Finish
+pub mod Enough
+pub mod Theorems
+pub mod Determines
+pub mod OneAnswer
+pub mod Example

@@ -1,0 +1,10 @@
+pub mod Rising
+pub mod Faults
+pub mod Given
+pub mod Cursors
+pub mod Run
+pub mod Compute
+pub mod Calls
+pub mod Sound
+pub mod Promises
+pub mod Claims

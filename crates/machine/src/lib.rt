@@ -1,0 +1,70 @@
+// One run's cursor and answer. What a run does is said in specs/, over any periods and any moves.
+ghost use mathlib.Core.Path.{_≡_};
+ghost use Rattle.machine.specs.Faults.{faultNumber, refusedAnswer};
+
+// Why a cursor is ended.
+pub enum Cause {
+    Count,
+    Interval,
+    Until,
+    NoTick,
+    Range,
+}
+
+pub enum State {
+    Running,
+    Ended(Cause),
+}
+
+// What a run refuses: the record, or the cursor.
+pub enum Fault {
+    Record,
+    Cursor,
+}
+
+// Why a call has stopped.
+pub enum Stop {
+    Ended,
+    More,
+    Limited,
+    Refused(Fault),
+}
+
+// The period k, its kept candidates already passed, and the number handed out in all.
+pub struct Cursor {
+    pub state: State,
+    pub k: u64,
+    pub place: u32,
+    pub number: u64,
+}
+
+// The moves made and the count handed out are those of this call.
+pub struct Answer {
+    pub stop: Stop,
+    pub cursor: Cursor,
+    pub moves: u32,
+    pub handed: usize,
+}
+
+// The number of a refusal.
+pub fn fault_number(fault: Fault) -> u8
+    ensures { λ r. ⌜ r ≡ faultNumber fault ⌝ }
+{
+    match fault {
+        Fault::Record => 20,
+        Fault::Cursor => 21,
+    }
+}
+
+// The answer of a refused run: the cursor as given, zero moves and zero handed out.
+pub fn refused(fault: Fault, cursor: Cursor) -> Answer
+    ensures { λ r. ⌜ r ≡ refusedAnswer fault cursor ⌝ }
+{
+    let stop = Stop::Refused(fault);
+    Answer {
+        stop,
+        cursor,
+        moves: 0,
+        handed: 0,
+    }
+}
