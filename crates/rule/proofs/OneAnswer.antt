@@ -1,0 +1,18 @@
+-- One answer: of each public function, two answers that its promise allows are one. `Post` is the promise as the source states it.
+-- Assumes nothing.
+use Rattle.calendar.proofs.Determines.{Determines, one-answer}
+use Rattle.rule.proofs.rrule.refusal_number.Kinds as refusal-number-kinds
+use Rattle.rule.proofs.rrule.refusal_number.Reads as refusal-number
+use Rattle.rule.proofs.rrule.fresh.Kinds as fresh-kinds
+use Rattle.rule.proofs.rrule.fresh.Reads as fresh
+use Rattle.rule.proofs.validator.check.Kinds as check-kinds
+use Rattle.rule.proofs.validator.check.Reads as check
+
+pub refusal-number-has-one : Determines 0 refusal-number-kinds.ps refusal-number-kinds.r refusal-number.Post
+refusal-number-has-one κs a x y e f = one-answer
+
+pub fresh-has-one : Determines 0 fresh-kinds.ps fresh-kinds.r fresh.Post
+fresh-has-one κs a x y e f = one-answer
+
+pub check-has-one : Determines 10 check-kinds.ps check-kinds.r check.Post
+check-has-one κs a x y e f = one-answer

@@ -1,0 +1,14 @@
+pub mod Instants
+pub mod Lists
+pub mod Raw
+pub mod Refusals
+pub mod Entries
+pub mod Filling
+pub mod Records
+pub mod Days
+pub mod Times
+pub mod Periods
+pub mod Candidates
+pub mod Satisfies
+pub mod Moves
+pub mod Run

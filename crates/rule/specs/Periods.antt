@@ -1,0 +1,59 @@
+-- Periods: where period k begins, and the first second after it.
+-- Assumes nothing.
+use Prim.Native.Nat.{ℕ, zero, suc, _+_, _-_, _*_, _/_, _%_, min}
+use mathlib.Core.Bool.{Bool}
+use lib.Dec.{ltb}
+use Rattle.rule.specs.declared.rrule.Frequency.{Frequency}
+use Rattle.rule.specs.declared.rrule.Rule.{Rule}
+use Rattle.calendar.specs.declared.utils.Date.{Date}
+use Rattle.calendar.specs.Calendar.{newYear, firstOf, yearOf, dateOf}
+use Rattle.rule.specs.Instants.{second, rangeEnd, dayOf}
+use Rattle.rule.specs.Days.{weekOf}
+
+-- in seconds
+pub record Period : Type 0 where
+  pub begins : ℕ
+  pub ends : ℕ
+
+abbrev pub ofDays : ℕ → ℕ → Period
+ofDays a b = record { begins = a * 86400; ends = b * 86400 }
+
+-- A period is a calendar year, month, week from the week start, day, hour, minute or second, by frequency.
+abbrev pub year : ℕ → Period
+year y = ofDays (newYear y) (newYear (y + 1))
+
+-- months are numbered through: 12 for each year, January 0
+unfoldable pub month : ℕ → Period
+unfolding firstOf
+month n = ofDays (firstOf (n / 12) (n % 12 + 1)) (firstOf ((n + 1) / 12) ((n + 1) % 12 + 1))
+
+-- the unit that begins at n times its length
+abbrev pub unit : ℕ → ℕ → Period
+unit length n = record { begins = n * length; ends = (n + 1) * length }
+
+-- Week period 0 begins on the start's own day d and ends with the start's calendar week, which begins on the day w; later ones are whole
+-- calendar weeks. A week is cut at the end of 9999.
+abbrev pub week : ℕ → ℕ → ℕ → Period
+week d w zero = ofDays d (min (w + 7) rangeEnd)
+week d w (suc n) = ofDays (w + 7 * suc n) (min (w + 7 * suc n + 7) rangeEnd)
+
+-- the period n units after the one that holds the second s
+unfoldable pub periodAfter : Frequency → ℕ → ℕ → ℕ → Period
+unfolding dateOf yearOf month
+periodAfter Frequency.Yearly wkst s n = year (yearOf (dayOf s) + n)
+periodAfter Frequency.Monthly wkst s n = let date : Date = dateOf (dayOf s) in month (12 * date .year + (date .month - 1) + n)
+periodAfter Frequency.Weekly wkst s n = week (dayOf s) (weekOf wkst (dayOf s)) n
+periodAfter Frequency.Daily wkst s n = unit 86400 (s / 86400 + n)
+periodAfter Frequency.Hourly wkst s n = unit 3600 (s / 3600 + n)
+periodAfter Frequency.Minutely wkst s n = unit 60 (s / 60 + n)
+periodAfter Frequency.Secondly wkst s n = unit 1 (s + n)
+
+-- Period k is the start's period moved on by k times INTERVAL.
+unfoldable pub period : Rule → ℕ → Period
+unfolding periodAfter
+period r k = periodAfter (r .freq) (r .wkst) (second (r .start)) (k * r .interval)
+
+-- it begins in range
+unfoldable pub inRange : Rule → ℕ → Bool
+unfolding period
+inRange r k = ltb (period r k .begins) (rangeEnd * 86400)

@@ -1,0 +1,183 @@
+-- When the panel says no: the refusals of the check, 1 to 9. The lowest number that applies is given, and none otherwise.
+-- Assumes nothing.
+use Prim.Native.Nat.{ℕ}
+use mathlib.Core.Bool.{Bool, true, false, not, _&&_, _||_}
+use mathlib.Core.List.{List, [], _∷_}
+use lib.ListN.{length}
+use lib.Dec.{eqb, ltb}
+use lib.IntN.{ℤ, pos, negsuc}
+use lib.Signed.{ltZ}
+use Rattle.rule.specs.declared.rrule.Until.{Until}
+use Rattle.rule.specs.declared.rrule.Range.{Range}
+use Rattle.rule.specs.declared.rrule.Slot.{Slot}
+use Rattle.rule.specs.declared.rrule.Refusal.{Refusal}
+use Rattle.rule.specs.declared.rrule.Verdict.{Verdict}
+use Rattle.rule.specs.Instants.{lastInstant}
+use Rattle.rule.specs.Lists.{months, monthdays, yeardays, weeknos, nths, weekdays, hours, minutes, seconds, positions, slotOf}
+use Rattle.rule.specs.Raw.{RawLists, Raw}
+
+abbrev pub refusalNumber : Refusal → ℕ
+refusalNumber Refusal.FrequencyAbove = 1
+refusalNumber Refusal.WeekStartAbove = 2
+refusalNumber Refusal.StartOut = 3
+refusalNumber Refusal.UntilOut = 4
+refusalNumber Refusal.EntryOut = 5
+refusalNumber Refusal.NotRising = 6
+refusalNumber Refusal.MixedDays = 7
+refusalNumber Refusal.NthMisplaced = 8
+refusalNumber Refusal.PositionsAlone = 9
+
+-- UNTIL out of range
+abbrev pub untilOut : Until → Bool
+untilOut Until.Absent = false
+untilOut (Until.At t) = ltb lastInstant t
+
+abbrev pub lacks : List ℤ → Bool
+lacks [] = true
+lacks (x ∷ xs) = false
+
+-- some entry of a list passes a test
+unfoldable pub some : (ℤ → Bool) → List ℤ → Bool
+some p [] = false
+some p (x ∷ xs) = p x || some p xs
+
+-- a list entry outside its range, zero included where the range excludes it
+abbrev pub isOutside : Slot → Bool
+isOutside (Slot.At i) = false
+isOutside Slot.Outside = true
+
+abbrev pub strayIn : Range → ℤ → Bool
+strayIn g x = isOutside (slotOf g x)
+
+unfoldable pub strays : Range → List ℤ → Bool
+unfolding slotOf some
+strays g l = some (strayIn g) l
+
+-- of BYDAY: also an entry that lacks a half
+unfoldable pub entryOut : RawLists → Bool
+unfolding strays
+entryOut l =
+    strays months (l .bymonth)
+    || strays monthdays (l .bymonthday)
+    || strays yeardays (l .byyearday)
+    || strays weeknos (l .byweekno)
+    || not (eqb (length (l .bydayn)) (length (l .bydayw)))
+    || strays nths (l .bydayn)
+    || strays weekdays (l .bydayw)
+    || strays hours (l .byhour)
+    || strays minutes (l .byminute)
+    || strays seconds (l .bysecond)
+    || strays positions (l .bysetpos)
+
+-- a list rises strictly from a value on; BYDAY by n, then weekday
+unfoldable pub risesFrom : ℤ → List ℤ → Bool
+risesFrom a [] = true
+risesFrom a (x ∷ xs) = elim (ltZ a x) [ true ↦ risesFrom x xs | false ↦ false ]
+
+unfoldable pub rises : List ℤ → Bool
+unfolding risesFrom
+rises [] = true
+rises (x ∷ xs) = risesFrom x xs
+
+abbrev pub pairBelow : ℤ → ℤ → ℤ → ℤ → Bool
+pairBelow n w m v = ltZ n m || (not (ltZ m n) && ltZ w v)
+
+unfoldable pub pairsRiseFrom : ℤ → ℤ → List ℤ → List ℤ → Bool
+pairsRiseFrom n w [] ws = true
+pairsRiseFrom n w (m ∷ ns) [] = true
+pairsRiseFrom n w (m ∷ ns) (v ∷ ws) = elim (pairBelow n w m v) [ true ↦ pairsRiseFrom m v ns ws | false ↦ false ]
+
+unfoldable pub pairsRise : List ℤ → List ℤ → Bool
+unfolding pairsRiseFrom
+pairsRise [] ws = true
+pairsRise (n ∷ ns) [] = true
+pairsRise (n ∷ ns) (w ∷ ws) = pairsRiseFrom n w ns ws
+
+-- a list doesn't rise strictly
+unfoldable pub notRising : RawLists → Bool
+unfolding rises pairsRise
+notRising l =
+    not (rises (l .bymonth))
+    || not (rises (l .bymonthday))
+    || not (rises (l .byyearday))
+    || not (rises (l .byweekno))
+    || not (pairsRise (l .bydayn) (l .bydayw))
+    || not (rises (l .byhour))
+    || not (rises (l .byminute))
+    || not (rises (l .bysecond))
+    || not (rises (l .bysetpos))
+
+-- BYDAY has entries with n = 0; it has entries with n not 0
+abbrev pub isZero : ℤ → Bool
+isZero (pos n) = eqb n 0
+isZero (negsuc n) = false
+
+abbrev pub isNth : ℤ → Bool
+isNth n = not (isZero n)
+
+unfoldable pub someEvery : List ℤ → Bool
+unfolding some
+someEvery ns = some isZero ns
+
+unfoldable pub someNth : List ℤ → Bool
+unfolding some
+someNth ns = some isNth ns
+
+-- BYDAY has entries with n = 0 and with n not 0
+unfoldable pub mixedDays : RawLists → Bool
+unfolding someEvery someNth
+mixedDays l = someEvery (l .bydayn) && someNth (l .bydayn)
+
+-- n not 0 in BYDAY, while BYWEEKNO is present or frequency is neither YEARLY nor MONTHLY
+unfoldable pub nthMisplaced : ℕ → RawLists → Bool
+unfolding someNth
+nthMisplaced freq l = someNth (l .bydayn) && (not (lacks (l .byweekno)) || ltb 1 freq)
+
+-- BYSETPOS present and every other BY list empty, before filling in
+abbrev pub positionsAlone : RawLists → Bool
+positionsAlone l =
+    not (lacks (l .bysetpos))
+    && (lacks (l .bymonth) && (lacks (l .bymonthday) && (lacks (l .byyearday) && (lacks (l .byweekno)
+    && (lacks (l .bydayn) && (lacks (l .bydayw) && (lacks (l .byhour) && (lacks (l .byminute) && lacks (l .bysecond)))))))))
+
+-- a row of the table: its refusal, and whether it applies
+pub data Row : Type 0 where
+  row : Refusal → Bool → Row
+
+-- The table: given exactly when ..
+abbrev pub rows : (frequency wkst start until entry order mixed nth positions : Bool) → List Row
+rows frequency wkst start until entry order mixed nth positions =
+    row Refusal.FrequencyAbove frequency ∷
+    row Refusal.WeekStartAbove wkst ∷
+    row Refusal.StartOut start ∷
+    row Refusal.UntilOut until ∷
+    row Refusal.EntryOut entry ∷
+    row Refusal.NotRising order ∷
+    row Refusal.MixedDays mixed ∷
+    row Refusal.NthMisplaced nth ∷
+    row Refusal.PositionsAlone positions ∷
+    []
+
+-- each row judged by itself
+unfoldable pub tableOf : (freq wkst start : ℕ) → Until → RawLists → List Row
+unfolding entryOut notRising mixedDays nthMisplaced
+tableOf freq wkst start until l =
+    rows
+    (ltb 6 freq)
+    (ltb 6 wkst)
+    (ltb lastInstant start)
+    (untilOut until)
+    (entryOut l)
+    (notRising l)
+    (mixedDays l)
+    (nthMisplaced freq l)
+    (positionsAlone l)
+
+-- the first row that applies
+unfoldable pub lowest : List Row → Verdict
+lowest [] = Verdict.Accepted
+lowest (row n b ∷ rows) = elim b [ true ↦ Verdict.Refused n | false ↦ lowest rows ]
+
+unfoldable pub verdict : Raw → Verdict
+unfolding lowest tableOf
+verdict w = lowest (tableOf (w .freq) (w .wkst) (w .start) (w .until) (w .lists))
