@@ -4,3 +4,4 @@ pub mod FreshLaws
 pub mod OneAnswer
 pub mod RuleLaws
 pub mod SetLaws
+pub mod StarredCharts

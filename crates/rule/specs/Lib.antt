@@ -12,3 +12,4 @@ pub mod Candidates
 pub mod Satisfies
 pub mod Moves
 pub mod Run
+pub mod Charts

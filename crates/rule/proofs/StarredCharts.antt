@@ -1,0 +1,12 @@
+-- The starred charts hold of the definitions together.
+-- Assumes nothing.
+use mathlib.Core.Path.{_≡_, refl}
+use mathlib.Core.List.{map}
+use Rattle.calendar.specs.Calendar.{leap, newYear, daysBeforeMonth}
+use Rattle.machine.specs.Run.{counted, atCandidate, moveOn}
+use Rattle.machine.specs.Compute.{walk, after, runs}
+use Rattle.rule.specs.Charts.{Case, play, playOf, starred}
+
+pub starred-charts : map playOf starred ≡ map (λ (c : Case). c .played) starred
+unfolding play starred leap newYear daysBeforeMonth counted atCandidate moveOn walk after runs
+starred-charts = refl
