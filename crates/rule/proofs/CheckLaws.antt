@@ -43,6 +43,16 @@ start-in-range freq wkst start until l e = go (ltb 6 freq) (ltb 6 wkst) (ltb las
     go false false true p q = absurd (let z : _≡_ {A = ℕ} 0 1 = cc in omega arith)
     go false false false p q = ltb-false lastInstant start p
 
+pub wkst-in-range : (freq wkst start : ℕ) (until : Until) (l : RawLists) → lowest (tableOf freq wkst start until l) ≡ Verdict.Accepted → wkst ≤ 6
+unfolding tableOf lowest
+wkst-in-range freq wkst start until l e = go (ltb 6 freq) (ltb 6 wkst) refl e
+  where
+    go : (f w : Bool) → ltb 6 wkst ≡ w
+        → lowest (rows f w (ltb lastInstant start) (untilOut until) (entryOut l) (notRising l) (mixedDays l) (nthMisplaced freq l) (positionsAlone l)) ≡ Verdict.Accepted → wkst ≤ 6
+    go true w p q = absurd (let z : _≡_ {A = ℕ} 0 1 = cc in omega arith)
+    go false true p q = absurd (let z : _≡_ {A = ℕ} 0 1 = cc in omega arith)
+    go false false p q = ltb-false 6 wkst p
+
 checked-is : (w : Raw) → answers (lowest (tableOf (w .freq) (w .wkst) (w .start) (w .until) (w .lists)))
     (fill (givenAs (frequency (w .freq)) (w .interval) (w .count) (w .until) (w .wkst) (w .start) (w .lists))) ≡ checked w
 unfolding checked

@@ -5,3 +5,16 @@ pub mod OneAnswer
 pub mod RuleLaws
 pub mod SetLaws
 pub mod StarredCharts
+pub mod Members
+pub mod Listed
+pub mod Chosen
+pub mod Weeks
+pub mod NthWeekday
+pub mod Order
+pub mod Moved
+pub mod Skipped
+pub mod Ends
+pub mod SoundPeriods
+pub mod Demand
+pub mod OneList
+pub mod Cursors

@@ -77,10 +77,13 @@ pub record Kept (r : Rule) (k s : ℕ) : Type 0 where
   pub choice : Chosen (r .bysetpos) (length (candidates r k)) j
 
 -- The same, computed: in order, each once.
+abbrev pub chooses : List Bool → ℕ → ℕ → Bool
+chooses s n j = eitherEnd positions s (j + 1) n
+
 unfoldable pub chosen : List Bool → ℕ → ℕ → List ℕ → List ℕ
 unfolding eitherEnd
 chosen s n j [] = []
-chosen s n j (x ∷ xs) = only (eitherEnd positions s (j + 1) n) (x ∷ []) ++ chosen s n (j + 1) xs
+chosen s n j (x ∷ xs) = only (chooses s n j) (x ∷ []) ++ chosen s n (j + 1) xs
 
 unfoldable pub keeps : List Bool → List ℕ → List ℕ
 unfolding isEmpty chosen

@@ -13,3 +13,5 @@ pub mod Satisfies
 pub mod Moves
 pub mod Run
 pub mod Charts
+pub mod Meaning
+pub mod Demand

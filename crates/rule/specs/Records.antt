@@ -1,18 +1,22 @@
 -- A record that an accepted check yields: refusal 20 is given exactly when there is none such.
 -- Assumes nothing.
-use Prim.Native.Nat.{ℕ, suc, _+_, _-_, _/_, _%_}
-use mathlib.Core.Bool.{Bool, true, false, _&&_}
+use Prim.Native.Nat.{ℕ, _+_, _-_, _/_, _%_}
+use mathlib.Core.Path.{_≡_}
+use mathlib.Core.Bool.{Bool, true, false, not, _&&_, _||_, Bool·beq}
 use mathlib.Core.List.{List, [], _∷_, map}
-use lib.Dec.{ltb}
+use lib.Dec.{ltb, leb}
+use lib.ListN.{length, take, drop}
 use lib.IntN.{ℤ, pos, negsuc}
 use Rattle.calendar.specs.Calendar.{if_then_else_}
+use Rattle.rule.specs.declared.rrule.Frequency.{Frequency}
 use Rattle.rule.specs.declared.rrule.Range.{Range}
 use Rattle.rule.specs.declared.rrule.Verdict.{Verdict}
 use Rattle.rule.specs.declared.rrule.Rule.{Rule}
-use Rattle.rule.specs.Lists.{months, monthdays, yeardays, weeknos, nths, weekdays, hours, minutes, seconds, positions}
+use Rattle.rule.specs.Instants.{lastInstant}
+use Rattle.rule.specs.Lists.{months, monthdays, yeardays, weeknos, nths, weekdays, hours, minutes, seconds, positions, isEmpty}
 use Rattle.rule.specs.Raw.{RawLists, Raw}
-use Rattle.rule.specs.Refusals.{verdict}
-use Rattle.rule.specs.Filling.{frequencyNumber, given, fill}
+use Rattle.rule.specs.Refusals.{untilOut, verdict}
+use Rattle.rule.specs.Filling.{frequencyNumber, isBelow, noDays, given, fill}
 
 -- the value of a slot
 abbrev pub valueOf : Range → ℕ → ℤ
@@ -58,26 +62,71 @@ accepts (Verdict.Refused n) = false
 accepts Verdict.Accepted = true
 
 -- two sets are one
-unfoldable pub same : List Bool → List Bool → Bool
-same [] [] = true
-same [] (b ∷ bs) = false
-same (a ∷ xs) [] = false
-same (a ∷ xs) (b ∷ bs) = elim a [ true ↦ elim b [ true ↦ same xs bs | false ↦ false ] | false ↦ elim b [ true ↦ false | false ↦ same xs bs ] ]
+unfoldable pub sameSet : List Bool → List Bool → Bool
+sameSet [] [] = true
+sameSet [] (b ∷ bs) = false
+sameSet (a ∷ xs) [] = false
+sameSet (a ∷ xs) (b ∷ bs) = Bool·beq a b && sameSet xs bs
 
-unfoldable pub sameLists : Rule → Rule → Bool
-unfolding same
-sameLists r q =
-    same (r .bymonth) (q .bymonth)
-    && (same (r .bymonthday) (q .bymonthday)
-    && (same (r .byyearday) (q .byyearday)
-    && (same (r .byweekno) (q .byweekno)
-    && (same (r .byday) (q .byday)
-    && (same (r .byhour) (q .byhour)
-    && (same (r .byminute) (q .byminute)
-    && (same (r .bysecond) (q .bysecond)
-    && same (r .bysetpos) (q .bysetpos))))))))
+unfoldable pub sameSets : Rule → Rule → Bool
+unfolding sameSet
+sameSets r q =
+    sameSet (r .bymonth) (q .bymonth)
+    && (sameSet (r .bymonthday) (q .bymonthday)
+    && (sameSet (r .byyearday) (q .byyearday)
+    && (sameSet (r .byweekno) (q .byweekno)
+    && (sameSet (r .byday) (q .byday)
+    && (sameSet (r .byhour) (q .byhour)
+    && (sameSet (r .byminute) (q .byminute)
+    && (sameSet (r .bysecond) (q .bysecond)
+    && sameSet (r .bysetpos) (q .bysetpos))))))))
 
 -- Read as a raw rule it passes, and filling that in gives the record again (Claims, GoodRecords).
 unfoldable pub yielded : Rule → Bool
-unfolding asRaw verdict given fill sameLists
-yielded r = accepts (verdict (asRaw r)) && sameLists (fill (given (asRaw r))) r
+unfolding asRaw verdict given fill sameSets
+yielded r = accepts (verdict (asRaw r)) && sameSets (fill (given (asRaw r))) r
+
+-- The same, asked of the sets themselves (Claims, RecordsComputed). BYDAY's entries with n = 0 have the slots 371 to 377, between those with
+-- n below 0 and those with n above 0.
+unfoldable pub hasEvery : List Bool → Bool
+unfolding isEmpty
+hasEvery s = not (isEmpty (take 7 (drop 371 s)))
+
+unfoldable pub hasNth : List Bool → Bool
+unfolding isEmpty
+hasNth s = not (isEmpty (take 371 s)) || not (isEmpty (take 371 (drop 378 s)))
+
+-- every list but BYSETPOS is empty
+unfoldable pub noOther : Rule → Bool
+unfolding isEmpty noDays
+noOther r = isEmpty (r .bymonth) && (noDays r && (isEmpty (r .byhour) && (isEmpty (r .byminute) && isEmpty (r .bysecond))))
+
+-- the rows of the table that a record can break: 2 to 4, and 7 to 9
+unfoldable pub breaksNoRow : Rule → Bool
+unfolding isEmpty hasEvery hasNth noOther
+breaksNoRow r =
+    (leb (r .wkst) 6 && (leb (r .start) lastInstant && not (untilOut (r .until))))
+    && (not (hasEvery (r .byday) && hasNth (r .byday))
+    && (not (hasNth (r .byday) && (not (isEmpty (r .byweekno)) || isBelow Frequency.Monthly (r .freq)))
+    && not (not (isEmpty (r .bysetpos)) && noOther r)))
+
+-- filling in would change the record
+unfoldable pub isUnfilled : Rule → Bool
+unfolding isEmpty noDays
+isUnfilled r =
+    noDays r && isBelow (r .freq) Frequency.Daily
+    || (isBelow (r .freq) Frequency.Hourly && isEmpty (r .byhour)
+    || (isBelow (r .freq) Frequency.Minutely && isEmpty (r .byminute)
+    || isBelow (r .freq) Frequency.Secondly && isEmpty (r .bysecond)))
+
+-- a record's sets have one flag for each slot of their ranges
+pub record Sized (r : Rule) : Type 0 where
+  pub bymonth : length (r .bymonth) ≡ 12
+  pub bymonthday : length (r .bymonthday) ≡ 62
+  pub byyearday : length (r .byyearday) ≡ 732
+  pub byweekno : length (r .byweekno) ≡ 106
+  pub byday : length (r .byday) ≡ 749
+  pub byhour : length (r .byhour) ≡ 24
+  pub byminute : length (r .byminute) ≡ 60
+  pub bysecond : length (r .bysecond) ≡ 60
+  pub bysetpos : length (r .bysetpos) ≡ 732

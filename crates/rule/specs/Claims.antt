@@ -1,0 +1,33 @@
+-- What is claimed of the rule's definitions; proofs/ has a proof of each claim, under the same name in small letters.
+-- Assumes nothing.
+use Prim.Native.Nat.{ℕ, _<_}
+use mathlib.Core.Path.{_≡_}
+use mathlib.Core.Bool.{not, _&&_}
+use lib.Dec.{ltb}
+use lib.IntN.{ℤ}
+use lib.Signed.{ltZ}
+use Rattle.rule.specs.declared.rrule.Range.{Range}
+use Rattle.rule.specs.declared.rrule.Slot.{Slot}
+use Rattle.rule.specs.declared.rrule.Rule.{Rule}
+use Rattle.rule.specs.Lists.{slots, slotOf, pairSlot}
+use Rattle.rule.specs.Refusals.{pairBelow}
+use Rattle.rule.specs.Records.{valueOf, yielded, breaksNoRow, isUnfilled, Sized}
+
+-- A slot's value has that slot, and a value that has a slot is that slot's value.
+abbrev pub SlotOfItsValue : Type 0
+SlotOfItsValue = (g : Range) (i : ℕ) → i < slots g → slotOf g (valueOf g i) ≡ Slot.At i
+
+abbrev pub ValueOfItsSlot : Type 0
+ValueOfItsSlot = (g : Range) (v : ℤ) (i : ℕ) → slotOf g v ≡ Slot.At i → valueOf g i ≡ v
+
+-- Of two values in a range, one is below the other exactly when its slot is below the other's; likewise of BYDAY's pairs. So a list that
+-- rises strictly (refusal 6) is one whose slots do.
+abbrev pub SlotOrder : Type 0
+SlotOrder = (g : Range) (a b : ℤ) (i j : ℕ) → slotOf g a ≡ Slot.At i → slotOf g b ≡ Slot.At j → ltZ a b ≡ ltb i j
+
+abbrev pub PairOrder : Type 0
+PairOrder = (n w m v : ℤ) (i j : ℕ) → pairSlot n w ≡ Slot.At i → pairSlot m v ≡ Slot.At j → pairBelow n w m v ≡ ltb i j
+
+-- What refusal 20 asks of a record is asked of its sets: the rows that it can break, and whether filling in would change it.
+abbrev pub RecordsComputed : Type 0
+RecordsComputed = (r : Rule) → Sized r → (breaksNoRow r && not (isUnfilled r)) ≡ yielded r
