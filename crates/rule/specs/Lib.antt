@@ -15,3 +15,4 @@ pub mod Run
 pub mod Charts
 pub mod Meaning
 pub mod Demand
+pub mod Claims
