@@ -3,27 +3,25 @@
 use mathlib.Core.Path.{_≡_, refl, ap, sym, _∙_}
 use mathlib.Core.Bool.{Bool, true, false, not, _&&_, _||_, or-false}
 use mathlib.Core.List.{List, [], _∷_, _++_, map}
-use Prim.Native.Nat.{ℕ, zero, suc, _+_, _-_, _/_, _%_, _≤_, _<_}
+use Prim.Native.Nat.{ℕ, _+_, _-_, _/_, _≤_, _<_}
 use native.Mathlib.Omega.{arith}
-use lib.Dec.{eqb, ltb}
 use lib.ListN.{length, take, drop, take-append-drop, length-drop}
 use lib.Seq.{length-take-le, take-all, drop-drop}
-use lib.IntN.{ℤ, pos, negsuc}
+use lib.IntN.{ℤ}
 use borrow.Author.Tests.{lt-ltb, le-ltb, ne-eqb}
-use Rattle.calendar.specs.Calendar.{if_then_else_}
-use Rattle.rule.specs.Lists.{nths, isEmpty}
+use Rattle.rule.specs.Lists.{isEmpty}
 use Rattle.rule.specs.Refusals.{some, isZero, isNth, someEvery, someNth}
-use Rattle.rule.specs.Records.{valueOf, slotsFrom, hasEvery, hasNth}
+use Rattle.rule.specs.Records.{slotsFrom, hasEvery, hasNth}
 use Rattle.rule.proofs.ValueLaws.{nthAt, some-never, some-always, some-append}
 
 -- n of a slot is 0 in the middle part and nowhere else
-zero-low : (j : ℕ) → j < 371 → isZero (nthAt j) ≡ false
+pub zero-low : (j : ℕ) → j < 371 → isZero (nthAt j) ≡ false
 zero-low j h = rw (lt-ltb (j / 7) 53 (omega arith))
 
-zero-middle : (j : ℕ) → 371 ≤ j → j < 378 → isZero (nthAt j) ≡ true
+pub zero-middle : (j : ℕ) → 371 ≤ j → j < 378 → isZero (nthAt j) ≡ true
 zero-middle j h k = let e : j / 7 ≡ 53 = omega arith in rw e
 
-zero-high : (j : ℕ) → 378 ≤ j → isZero (nthAt j) ≡ false
+pub zero-high : (j : ℕ) → 378 ≤ j → isZero (nthAt j) ≡ false
 zero-high j h = rw (le-ltb (j / 7) 53 (omega arith)) (ne-eqb (j / 7 - 53) 0 (λ (e : j / 7 - 53 ≡ 0). omega arith))
 
 module _ (s : List Bool) (sized : length s ≡ 749) where
@@ -50,10 +48,13 @@ module _ (s : List Bool) (sized : length s ≡ 749) where
       ∙ some-append p nthAt 0 (take 371 s) (take 7 (drop 371 s) ++ take 371 (drop 378 s))
       ∙ ap (λ (i : ℕ). low || some p (map nthAt (slotsFrom (0 + i) (take 7 (drop 371 s) ++ take 371 (drop 378 s))))) length-low
       ∙ ap (λ (b : Bool). low || b) (some-append p nthAt 371 (take 7 (drop 371 s)) (take 371 (drop 378 s)))
-      ∙ ap (λ (i : ℕ). low || (some p (map nthAt (slotsFrom 371 (take 7 (drop 371 s)))) || some p (map nthAt (slotsFrom (371 + i) (take 371 (drop 378 s)))))) length-middle
+      ∙ ap (λ (i : ℕ). low || (middle || some p (map nthAt (slotsFrom (371 + i) (take 371 (drop 378 s)))))) length-middle
     where
       low : Bool
       low = some p (map nthAt (slotsFrom 0 (take 371 s)))
+
+      middle : Bool
+      middle = some p (map nthAt (slotsFrom 371 (take 7 (drop 371 s))))
 
   pub every-is : someEvery (map nthAt (slotsFrom 0 s)) ≡ hasEvery s
   unfolding someEvery hasEvery

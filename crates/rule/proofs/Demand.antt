@@ -23,15 +23,18 @@ use Rattle.rule.specs.declared.rrule.Verdict.{Verdict}
 use Rattle.rule.specs.declared.rrule.Rule.{Rule}
 use Rattle.rule.specs.Instants.{second, instant, lastInstant, rangeEnd}
 use Rattle.rule.specs.Refusals.{untilOut, entryOut, notRising, mixedDays, nthMisplaced, positionsAlone, rows, tableOf, lowest, verdict}
+use Rattle.rule.specs.Raw.{Raw}
+use Rattle.rule.specs.Filling.{given, fill, answers, checked, Yields}
 use Rattle.rule.specs.Records.{asRaw, accepts, yielded}
 use Rattle.rule.specs.Periods.{period, inRange}
 use Rattle.rule.specs.Candidates.{Kept, kept}
 use Rattle.rule.specs.Satisfies.{NotAfter, Satisfies}
 use Rattle.rule.specs.Run.{countOf, untilOf, periods, freshOf}
 use Rattle.rule.specs.Meaning.{RisesFrom}
-use Rattle.rule.specs.Demand.{callOf, toldBy, Handed, EndedBy, Lists, GoodRecordsList}
+use Rattle.rule.specs.Demand.{callOf, toldBy, Handed, EndedBy, Lists, GoodRecordsList, DemandThree}
 use Rattle.rule.proofs.CheckLaws.{start-in-range, wkst-in-range}
 use Rattle.rule.proofs.Chosen.{kept-are}
+use Rattle.rule.proofs.GoodRecords.{good-records}
 use Rattle.rule.proofs.SoundPeriods.{kept-candidate, in-range, ends, sound}
 
 -- what is known of a good record
@@ -199,3 +202,19 @@ module _ (r : Rule) (good : yielded r ≡ true) (one : 1 ≤ r .interval) (calls
 
 pub good-records-list : GoodRecordsList
 good-records-list r good one calls = each-call r good one calls
+
+-- an accepted check keeps INTERVAL, and its record is a good one
+answered-interval : (v : Verdict) (q : Rule) → answers v q .verdict ≡ Verdict.Accepted → answers v q .rule .interval ≡ q .interval
+unfolding answers
+answered-interval Verdict.Accepted q e = refl
+answered-interval (Verdict.Refused n) q e = absurd (let z : _≡_ {A = ℕ} 0 1 = cc in omega arith)
+
+interval-kept : (w : Raw) → checked w .verdict ≡ Verdict.Accepted → checked w .rule .interval ≡ w .interval
+unfolding checked given fill
+interval-kept w e = answered-interval (verdict w) (fill (given w)) e
+
+pub demand-three : DemandThree
+demand-three w e one calls =
+    let good = good-records (checked w .rule) .1 (w, record { accepted = e; record-is = refl }) in
+    let kept : checked w .rule .interval ≡ w .interval = interval-kept w e in
+    good-records-list (checked w .rule) good (omega arith) calls

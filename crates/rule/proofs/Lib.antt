@@ -5,8 +5,11 @@ pub mod DayParts
 pub mod Demand
 pub mod Ends
 pub mod EntryLaws
+pub mod FillKeeps
 pub mod FillLaws
 pub mod FreshLaws
+pub mod GivenLaws
+pub mod GoodRecords
 pub mod Listed
 pub mod Members
 pub mod Moved

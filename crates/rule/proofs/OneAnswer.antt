@@ -5,19 +5,9 @@ use Rattle.rule.proofs.rrule.refusal_number.Kinds as refusal-number-kin
 use Rattle.rule.proofs.rrule.refusal_number.Reads as refusal-number
 use Rattle.rule.proofs.rrule.fresh.Kinds as fresh-kinds
 use Rattle.rule.proofs.rrule.fresh.Reads as fresh
-use Rattle.rule.proofs.validator.check.Kinds as check-kinds
-use Rattle.rule.proofs.validator.check.Reads as check
-use Rattle.rule.proofs.records.is_record.Kinds as is-record-kinds
-use Rattle.rule.proofs.records.is_record.Reads as is-record
 
 pub refusal-number-has-one : Determines 0 refusal-number-kinds.ps refusal-number-kinds.r refusal-number.Post
 refusal-number-has-one κs a x y e f = one-answer
 
 pub fresh-has-one : Determines 0 fresh-kinds.ps fresh-kinds.r fresh.Post
 fresh-has-one κs a x y e f = one-answer
-
-pub check-has-one : Determines 10 check-kinds.ps check-kinds.r check.Post
-check-has-one κs a x y e f = one-answer
-
-pub is-record-has-one : Determines 0 is-record-kinds.ps is-record-kinds.r is-record.Post
-is-record-has-one κs a x y e f = one-answer

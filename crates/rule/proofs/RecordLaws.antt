@@ -59,7 +59,7 @@ frequency-low Frequency.Hourly = refl
 frequency-low Frequency.Minutely = refl
 frequency-low Frequency.Secondly = refl
 
-frequency-back : (f : Frequency) → frequency (frequencyNumber f) ≡ f
+pub frequency-back : (f : Frequency) → frequency (frequencyNumber f) ≡ f
 unfolding frequency
 frequency-back Frequency.Yearly = refl
 frequency-back Frequency.Monthly = refl
@@ -68,6 +68,19 @@ frequency-back Frequency.Daily = refl
 frequency-back Frequency.Hourly = refl
 frequency-back Frequency.Minutely = refl
 frequency-back Frequency.Secondly = refl
+
+-- the lists of row 9 in another order
+pub in-order : (m d y w b t : Bool) → (m && (d && (y && (w && (b && (b && t)))))) ≡ (m && ((w && (y && (d && b))) && t))
+in-order false d y w b t = refl
+in-order true true true true true t = refl
+in-order true true true true false t = refl
+in-order true true true false b t = refl
+in-order true true false true b t = refl
+in-order true true false false b t = refl
+in-order true false true true b t = refl
+in-order true false true false b t = refl
+in-order true false false true b t = refl
+in-order true false false false b t = refl
 
 -- the lists of a record, read as a raw rule
 module _ (r : Rule) (z : Sized r) where
@@ -130,21 +143,6 @@ module _ (r : Rule) (z : Sized r) where
       )
       (ap (λ (b : Bool). not (isEmpty (r .bysetpos)) && b)
       (in-order (isEmpty (r .bymonth)) (isEmpty (r .bymonthday)) (isEmpty (r .byyearday)) (isEmpty (r .byweekno)) (isEmpty (r .byday)) _))
-    where
-      in-order : (m d y w b t : Bool) → (m && (d && (y && (w && (b && (b && t)))))) ≡ (m && ((w && (y && (d && b))) && t))
-      in-order false d y w b t = refl
-      in-order true false y w b t = go y w
-        where
-          go : (y w : Bool) → false ≡ ((w && (y && (false && b))) && t)
-          go true true = refl
-          go true false = refl
-          go false true = refl
-          go false false = refl
-      in-order true true false true b t = refl
-      in-order true true false false b t = refl
-      in-order true true true false b t = refl
-      in-order true true true true true t = refl
-      in-order true true true true false t = refl
 
   pub accepted-is : accepts (verdict (asRaw r)) ≡ breaksNoRow r
   unfolding breaksNoRow asRaw

@@ -7,9 +7,9 @@ use lib.Dec.{ltb, leb}
 use Rattle.rule.specs.declared.rrule.Rule.{Rule}
 use Rattle.rule.specs.Instants.{lastInstant}
 use Rattle.rule.specs.Lists.{isEmpty}
-use Rattle.rule.specs.Refusals.{untilOut, verdict}
+use Rattle.rule.specs.Refusals.{untilOut}
 use Rattle.rule.specs.Filling.{frequencyNumber, given, noDays, fill}
-use Rattle.rule.specs.Records.{asRaw, accepts, sameSets, yielded, hasEvery, hasNth, noOther, breaksNoRow, isUnfilled, Sized}
+use Rattle.rule.specs.Records.{asRaw, sameSets, yielded, hasEvery, hasNth, noOther, breaksNoRow, isUnfilled, Sized}
 use Rattle.rule.specs.Claims.{RecordsComputed}
 use Rattle.rule.proofs.DayParts.{empty-in-parts}
 use Rattle.rule.proofs.RecordLaws.{accepted-is, given-back}

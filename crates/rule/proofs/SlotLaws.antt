@@ -7,13 +7,11 @@ use native.Mathlib.Omega.{arith}
 use native.Mathlib.Numerals.{add-one}
 use lib.Dec.{leb, ltb}
 use lib.IntN.{ℤ, pos, negsuc}
-use lib.Signed.{ltZ}
 use borrow.Author.Tests.{leb-true, lt-ltb, le-ltb, le-leb, ltb-true, ltb-false}
 use Rattle.calendar.specs.Calendar.{if_then_else_}
 use Rattle.rule.specs.declared.rrule.Range.{Range}
 use Rattle.rule.specs.declared.rrule.Slot.{Slot}
 use Rattle.rule.specs.Lists.{within, zeros, slots, slotOf, nths, weekdays, beside, pairSlot}
-use Rattle.rule.specs.Refusals.{pairBelow}
 use Rattle.rule.specs.Records.{valueOf}
 use Rattle.rule.specs.Claims.{SlotOfItsValue, ValueOfItsSlot, SlotOrder, PairOrder}
 

@@ -1,21 +1,19 @@
 -- The values of a set: they lie in their range and rise strictly, and their set is the set again.
 -- Assumes nothing.
 use mathlib.Core.Path.{_≡_, refl, ap, sym, _∙_}
-use mathlib.Core.Bool.{Bool, true, false, not, _&&_, _||_, or-assoc, or-false}
+use mathlib.Core.Bool.{Bool, true, false, not, _||_, or-assoc}
 use mathlib.Core.List.{List, [], _∷_, _++_, map}
-use Prim.Native.Nat.{ℕ, zero, suc, _+_, _-_, _*_, _/_, _%_, _≤_, _<_}
+use Prim.Native.Nat.{ℕ, zero, suc, _+_, _/_, _%_, _≤_, _<_}
 use native.Mathlib.Omega.{arith}
 use native.Mathlib.Nat.{add-zero, zero-add}
-use lib.Dec.{eqb, ltb}
-use lib.ListN.{length, getD, take, drop, length-map}
+use lib.ListN.{length, getD}
 use lib.Seq.{ext-getD}
-use lib.IntN.{ℤ, pos, negsuc}
+use lib.IntN.{ℤ}
 use lib.Signed.{ltZ}
-use borrow.Author.Tests.{lt-ltb, le-ltb, eq-eqb, ne-eqb}
-use Rattle.calendar.specs.Calendar.{if_then_else_}
+use borrow.Author.Tests.{lt-ltb, eq-eqb, ne-eqb}
 use Rattle.rule.specs.declared.rrule.Range.{Range}
 use Rattle.rule.specs.declared.rrule.Slot.{Slot}
-use Rattle.rule.specs.Lists.{slots, slotOf, nths, weekdays, pairSlot, isEmpty, flags, is, someAt, setOf}
+use Rattle.rule.specs.Lists.{slots, slotOf, nths, weekdays, pairSlot, isEmpty, flags, someAt, setOf}
 use Rattle.rule.specs.Raw.{entries, pairs}
 use Rattle.rule.specs.Refusals.{lacks, some, isOutside, strays, risesFrom, rises, pairBelow, pairsRiseFrom, pairsRise}
 use Rattle.rule.specs.Records.{valueOf, slotsFrom, values}
@@ -64,7 +62,8 @@ rises-after f n a i [] l h e = refl
 rises-after f n a i (true ∷ bs) l h e = rw (e a i l (omega arith), risesFrom) (rises-after f n i (i + 1) bs (omega arith) (omega arith) e)
 rises-after f n a i (false ∷ bs) l h e = rises-after f n a (i + 1) bs (omega arith) (omega arith) e
 
-rises-by : (f : ℕ → ℤ) (n i : ℕ) (s : List Bool) → i + length s ≤ n → ((j k : ℕ) → j < k → k < n → ltZ (f j) (f k) ≡ true) → rises (map f (slotsFrom i s)) ≡ true
+rises-by : (f : ℕ → ℤ) (n i : ℕ) (s : List Bool) → i + length s ≤ n → ((j k : ℕ) → j < k → k < n → ltZ (f j) (f k) ≡ true)
+    → rises (map f (slotsFrom i s)) ≡ true
 unfolding slotsFrom rises
 rises-by f n i [] h e = refl
 rises-by f n i (true ∷ bs) h e = rises-after f n i (i + 1) bs (omega arith) (omega arith) e

@@ -2,7 +2,8 @@
 -- Assumes nothing.
 use Prim.Native.Nat.{ℕ, _<_}
 use mathlib.Core.Path.{_≡_}
-use mathlib.Core.Bool.{not, _&&_}
+use mathlib.Core.Logic.{_↔_}
+use mathlib.Core.Bool.{true, not, _&&_}
 use lib.Dec.{ltb}
 use lib.IntN.{ℤ}
 use lib.Signed.{ltZ}
@@ -10,7 +11,9 @@ use Rattle.rule.specs.declared.rrule.Range.{Range}
 use Rattle.rule.specs.declared.rrule.Slot.{Slot}
 use Rattle.rule.specs.declared.rrule.Rule.{Rule}
 use Rattle.rule.specs.Lists.{slots, slotOf, pairSlot}
+use Rattle.rule.specs.Raw.{Raw}
 use Rattle.rule.specs.Refusals.{pairBelow}
+use Rattle.rule.specs.Filling.{fill, Yields}
 use Rattle.rule.specs.Records.{valueOf, yielded, breaksNoRow, isUnfilled, Sized}
 
 -- A slot's value has that slot, and a value that has a slot is that slot's value.
@@ -28,6 +31,14 @@ SlotOrder = (g : Range) (a b : ℤ) (i j : ℕ) → slotOf g a ≡ Slot.At i →
 abbrev pub PairOrder : Type 0
 PairOrder = (n w m v : ℤ) (i j : ℕ) → pairSlot n w ≡ Slot.At i → pairSlot m v ≡ Slot.At j → pairBelow n w m v ≡ ltb i j
 
+-- Filling in twice is filling in once.
+abbrev pub FillOnce : Type 0
+FillOnce = (r : Rule) → fill (fill r) ≡ fill r
+
 -- What refusal 20 asks of a record is asked of its sets: the rows that it can break, and whether filling in would change it.
 abbrev pub RecordsComputed : Type 0
 RecordsComputed = (r : Rule) → Sized r → (breaksNoRow r && not (isUnfilled r)) ≡ yielded r
+
+-- Refusal 20 is given exactly when no raw rule's accepted check yields the record.
+abbrev pub GoodRecords : Type 0
+GoodRecords = (r : Rule) → (yielded r ≡ true) ↔ ((w : Raw) × Yields w r)

@@ -67,7 +67,7 @@ unfoldable pub given : Raw → Rule
 unfolding frequency givenAs
 given w = givenAs (frequency (w .freq)) (w .interval) (w .count) (w .until) (w .wkst) (w .start) (w .lists)
 
--- f has longer periods than g ("below", READINGS 8)
+-- f has longer periods than g ("below", reading 8)
 abbrev pub isBelow : Frequency → Frequency → Bool
 isBelow f g = ltb (frequencyNumber f) (frequencyNumber g)
 

@@ -14,7 +14,7 @@ use Rattle.rule.specs.declared.rrule.Verdict.{Verdict}
 use Rattle.rule.specs.declared.rrule.Rule.{Rule}
 use Rattle.rule.specs.Instants.{lastInstant}
 use Rattle.rule.specs.Lists.{months, monthdays, yeardays, weeknos, nths, weekdays, hours, minutes, seconds, positions, isEmpty}
-use Rattle.rule.specs.Raw.{RawLists, Raw}
+use Rattle.rule.specs.Raw.{Raw}
 use Rattle.rule.specs.Refusals.{untilOut, verdict}
 use Rattle.rule.specs.Filling.{frequencyNumber, isBelow, noDays, given, fill}
 

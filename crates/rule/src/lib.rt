@@ -1,6 +1,2 @@
-// A rule: its record, and the check that makes one of what is given.
-mod entries;
-mod filling;
-pub mod records;
+// A rule: its types, its fresh cursor, and in specs/ what document 01 says that it means.
 pub mod rrule;
-pub mod validator;

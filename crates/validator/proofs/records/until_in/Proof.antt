@@ -1,0 +1,24 @@
+-- `validator::records::until_in` meets its contract.
+-- Assumes nothing.
+use mathlib.Core.Path.{sym, ap}
+use mathlib.Core.Bool.{not}
+use Rattle.rule.specs.declared.rrule.Until.{Until}
+use Rattle.rule.specs.Refusals.{untilOut}
+use borrow.Author.Needs.{needs}
+use Rattle.validator.proofs.records.until_in.Statement.{statement}
+use Rattle.validator.proofs.records.until_in.Tie as tie
+
+enum-told : tie.Need-enum-told
+enum-told c = search needs
+
+enum-known-until : tie.Need-enum-known-until
+enum-known-until c = search needs
+
+returns : tie.Need-returns
+returns c = search needs
+
+returns-2 : tie.Need-returns-2
+returns-2 c = sym (ap (λ (u : Until). not (untilOut u)) (c .before .until .given .1))
+
+pub until-in-spec : {M : Type 1} → statement M
+until-in-spec = tie.close (tie.spec enum-told enum-known-until returns returns-2)
