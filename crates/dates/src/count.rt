@@ -12,7 +12,7 @@ pub struct Count {
 }
 
 // The day after.
-pub fn next(c: Count) -> Count {
+pub(crate) fn next(c: Count) -> Count {
     let weekday = (c.weekday % 7 + 1) % 7;
     if c.day < last_day(c.year, c.month) {
         let place = std::num::wrapping_add_u16(c.place, 1);
@@ -58,7 +58,7 @@ fn is_long(year: u32) -> bool {
 }
 
 // Whether all that the calendar says of a day is what was counted.
-pub fn agrees(c: Count, day: u32) -> bool {
+pub(crate) fn agrees(c: Count, day: u32) -> bool {
     dated(c, day) && tabled(c) && utils::weekday_of_day(day) == c.weekday
 }
 

@@ -15,7 +15,7 @@ use rule::rrule::Verdict;
 use validator::validate_rrule;
 
 // Checks the rule of a line, and writes the verdict and what the line asks to see.
-pub fn show_rule(line: &[u8]) {
+pub(crate) fn show_rule(line: &[u8]) {
     let mut values = lists::empty();
     let mut counts = [0usize; 10];
     let rule = given::read(line, &mut values, &mut counts);

@@ -40,7 +40,7 @@ fn plain() -> Given {
 }
 
 // Reads a line; its lists go to values, and their lengths to counts.
-pub fn read(line: &[u8], values: &mut [i16], counts: &mut [usize]) -> Given {
+pub(crate) fn read(line: &[u8], values: &mut [i16], counts: &mut [usize]) -> Given {
     let mut given = plain();
     let mut at = 0;
     while at < line.len() {

@@ -19,14 +19,14 @@ struct Entries {
 }
 
 // Room for ten lists.
-pub fn empty() -> [i16; 655360]
+pub(crate) fn empty() -> [i16; 655360]
     ensures { λ r. ⌜ 655360 ≡ length r ⌝ }
 {
     [0; 655360]
 }
 
 // Reads a list, whose text begins with its `=`.
-pub fn take(which: usize, list: &[u8], values: &mut [i16], counts: &mut [usize]) {
+pub(crate) fn take(which: usize, list: &[u8], values: &mut [i16], counts: &mut [usize]) {
     let mut at = text::after(list, 0);
     while at < list.len() {
         let end = text::find(list, at, b',');
@@ -143,7 +143,7 @@ fn moved_down(up: usize) -> i16 {
 }
 
 // One of the ten lists.
-pub fn list<'a, 'b>(which: usize, values: &'a [i16], counts: &'b [usize]) -> &'a [i16] {
+pub(crate) fn list<'a, 'b>(which: usize, values: &'a [i16], counts: &'b [usize]) -> &'a [i16] {
     let from = which % 10 * ROOM;
     let end = from + count_at(counts, which);
     if values.len() < end {

@@ -4,7 +4,7 @@ ghost use Prim.Native.Nat.{_+_, _≤_, min};
 ghost use lib.ListN.{length};
 
 // The place of the first such byte from a place on, or the end.
-pub fn find(text: &[u8], from: usize, byte: u8) -> usize
+pub(crate) fn find(text: &[u8], from: usize, byte: u8) -> usize
     requires { ⌜ from ≤ length (now text) ⌝ }
     ensures { λ r. ⌜ (from ≤ r) × (r ≤ length (now (text .entry))) ⌝ }
 {
@@ -19,7 +19,7 @@ pub fn find(text: &[u8], from: usize, byte: u8) -> usize
 }
 
 // The place behind a place, but no further than the end.
-pub fn after(text: &[u8], at: usize) -> usize
+pub(crate) fn after(text: &[u8], at: usize) -> usize
     requires { ⌜ at ≤ length (now text) ⌝ }
     ensures { λ r. ⌜ r ≡ min (at + 1) (length (now (text .entry))) ⌝ }
 {
@@ -27,7 +27,7 @@ pub fn after(text: &[u8], at: usize) -> usize
 }
 
 // The number that the digits make; other bytes are passed over.
-pub fn number(text: &[u8]) -> u64 {
+pub(crate) fn number(text: &[u8]) -> u64 {
     let mut n = 0;
     for i in 0..text.len() {
         n = with_digit(n, text[i]);
