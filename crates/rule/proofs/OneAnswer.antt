@@ -1,6 +1,10 @@
 -- One answer: of each public function, two answers that its promise allows are one. `Post` is the promise as the source states it.
 -- Assumes nothing.
 use Rattle.calendar.proofs.Determines.{Determines, one-answer}
+use Rattle.rule.proofs.lists.is_empty.Kinds as is-empty-kinds
+use Rattle.rule.proofs.lists.is_empty.Reads as is-empty
+use Rattle.rule.proofs.rrule.frequency_number.Kinds as frequency-number-kinds
+use Rattle.rule.proofs.rrule.frequency_number.Reads as frequency-number
 use Rattle.rule.proofs.rrule.refusal_number.Kinds as refusal-number-kinds
 use Rattle.rule.proofs.rrule.refusal_number.Reads as refusal-number
 use Rattle.rule.proofs.rrule.fresh.Kinds as fresh-kinds
@@ -11,3 +15,9 @@ refusal-number-has-one κs a x y e f = one-answer
 
 pub fresh-has-one : Determines 0 fresh-kinds.ps fresh-kinds.r fresh.Post
 fresh-has-one κs a x y e f = one-answer
+
+pub frequency-number-has-one : Determines 0 frequency-number-kinds.ps frequency-number-kinds.r frequency-number.Post
+frequency-number-has-one κs a x y e f = one-answer
+
+pub is-empty-has-one : Determines 1 is-empty-kinds.ps is-empty-kinds.r is-empty.Post
+is-empty-has-one κs a x y e f = one-answer

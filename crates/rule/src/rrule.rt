@@ -6,6 +6,7 @@ ghost use mathlib.Core.Path.{_≡_};
 ghost use Rattle.machine.specs.Given.{reaches};
 ghost use Rattle.rule.specs.Run.{countOf, startIn, freshOf};
 ghost use Rattle.rule.specs.Refusals.{refusalNumber};
+ghost use Rattle.rule.specs.Filling.{frequencyNumber};
 
 pub enum Frequency {
     Yearly,
@@ -99,6 +100,21 @@ pub fn refusal_number(refusal: Refusal) -> u8
         Refusal::MixedDays => 7,
         Refusal::NthMisplaced => 8,
         Refusal::PositionsAlone => 9,
+    }
+}
+
+// The number of a frequency in document 01.
+pub fn frequency_number(freq: Frequency) -> u8
+    ensures { λ r. ⌜ r ≡ frequencyNumber freq ⌝ }
+{
+    match freq {
+        Frequency::Yearly => 0,
+        Frequency::Monthly => 1,
+        Frequency::Weekly => 2,
+        Frequency::Daily => 3,
+        Frequency::Hourly => 4,
+        Frequency::Minutely => 5,
+        Frequency::Secondly => 6,
     }
 }
 

@@ -1,11 +1,12 @@
 // The entries of a list as given. Behind `entry` all numbers are unsigned.
+use rule::lists::is_empty;
 use rule::rrule::Range;
 use rule::rrule::Slot;
 ghost use mathlib.Core.Path.{_≡_};
 ghost use Prim.Native.Nat.{ℕ, _+_, _-_, _<_, _≤_};
 ghost use lib.ListN.{length, getD};
 ghost use lib.IntN.{pos};
-ghost use Rattle.rule.specs.Lists.{within, zeros, isEmpty, mark};
+ghost use Rattle.rule.specs.Lists.{within, zeros, mark};
 ghost use Rattle.rule.specs.Filling.{takes};
 ghost use Rattle.rule.specs.Raw.{entries, pairs};
 ghost use Rattle.rule.specs.Entries.{shift, Moved, slotAt, pairAt, pairBelowAt, marks};
@@ -269,17 +270,6 @@ fn mark_slot(slot: Slot, flags: &mut [bool])
         return;
     }
     flags[i] = true;
-}
-
-// Whether a set is empty: all flags are read, with no early exit, so that the time is short and always the same.
-pub(crate) fn is_empty(flags: &[bool]) -> bool
-    ensures { λ r. ⌜ r ≡ isEmpty (now (flags .entry)) ⌝ }
-{
-    let mut found = false;
-    for i in 0..flags.len() {
-        found = found | flags[i];
-    }
-    !found
 }
 
 // An empty set takes a slot, where it is to.

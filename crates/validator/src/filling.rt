@@ -1,27 +1,13 @@
 // Filling in: what an accepted rule takes from its start.
-use crate::entries::is_empty;
 use crate::entries::take_slot;
 use calendar::utils;
-use rule::rrule::Frequency;
+use rule::lists::is_empty;
 use rule::rrule::Rule;
 use rule::rrule::Slot;
+use rule::rrule::frequency_number;
 ghost use mathlib.Core.Path.{_≡_};
 ghost use Prim.Native.Nat.{_≤_};
-ghost use Rattle.rule.specs.Filling.{frequencyNumber, takes, noDays, fill};
-
-pub(crate) fn frequency_number(freq: Frequency) -> u8
-    ensures { λ r. ⌜ r ≡ frequencyNumber freq ⌝ }
-{
-    match freq {
-        Frequency::Yearly => 0,
-        Frequency::Monthly => 1,
-        Frequency::Weekly => 2,
-        Frequency::Daily => 3,
-        Frequency::Hourly => 4,
-        Frequency::Minutely => 5,
-        Frequency::Secondly => 6,
-    }
-}
+ghost use Rattle.rule.specs.Filling.{takes, noDays, fill};
 
 // Whether BYWEEKNO, BYYEARDAY, BYMONTHDAY and BYDAY are all empty.
 pub(crate) fn no_days(rule: Rule) -> bool

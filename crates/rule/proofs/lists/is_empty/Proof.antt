@@ -1,4 +1,4 @@
--- `validator::entries::is_empty` meets its contract: the set is empty where no flag was found, and none is left.
+-- `rule::lists::is_empty` meets its contract: the set is empty where no flag was found, and none is left.
 -- Assumes nothing.
 use mathlib.Core.Path.{_≡_, refl, sym, _∙_, ap}
 use mathlib.Core.Bool.{not, _&&_}
@@ -7,10 +7,10 @@ use native.Mathlib.Omega.{arith}
 use lib.IntN.{pos}
 use lib.ListN.{length, getD, drop}
 use borrow.Author.Needs.{needs}
 use Rattle.rule.specs.Lists.{isEmpty}
 use Rattle.rule.proofs.EntryLaws.{empty-next, empty-done}
-use Rattle.validator.proofs.entries.is_empty.Statement.{statement}
-use Rattle.validator.proofs.entries.is_empty.Tie as tie
+use Rattle.rule.proofs.lists.is_empty.Statement.{statement}
+use Rattle.rule.proofs.lists.is_empty.Tie as tie
 
 abbrev Inv-loop : tie.InvT-loop
 Inv-loop flags found₀ i₀ i-end found i = (i ≤ length flags) × (isEmpty flags ≡ not found && isEmpty (drop i flags))
