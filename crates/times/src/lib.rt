@@ -1,0 +1,2 @@
+// The times of a day that pass, and those of a period.
+pub mod iterinfo;
