@@ -1,0 +1,102 @@
+-- A mask that is written from its first place on, and a day set that is written into a buffer.
+-- Assumes nothing.
+use Prim.Native.Nat.{ℕ, zero, suc, _+_, _-_, _≤_, _<_}
+use mathlib.Core.Path.{_≡_, refl, sym, ap, _∙_}
+use mathlib.Core.Bool.{Bool, true, false}
+use mathlib.Core.List.{List, [], _∷_, _++_, append-nil, append-assoc}
+use native.Mathlib.Omega.{arith}
+use native.Mathlib.Numerals.{add-one}
+use lib.ListN.{length, take, set, replicate}
+use lib.Seq.{take-suc-set, take-all, sets}
+use Rattle.rule.specs.Lists.{flags}
+use Rattle.rule.specs.Candidates.{gather, only}
+use Rattle.times.specs.Blocks.{passing}
+use Rattle.weeks.specs.declared.yearinfo.Year.{Year}
+use Rattle.weeks.specs.Weeks.{yearInfo, weekMask}
+use Rattle.days.specs.declared.filters.Asked.{Asked}
+use Rattle.days.specs.declared.iterinfo.IterInfo.{IterInfo}
+use Rattle.days.specs.Masks.{nthMask}
+use Rattle.days.specs.Info.{maskWhere, infoOf}
+
+module _ (f : ℕ → Bool) (n : ℕ) where
+  flags-next : (i : ℕ) → i < n → flags f (n - i) i ≡ f i ∷ flags f (n - (i + 1)) (i + 1)
+  unfolding flags
+  flags-next i h = let s : n - i ≡ suc (n - (i + 1)) = omega arith in rw s
+
+  flags-end : (i : ℕ) → n ≤ i → flags f (n - i) i ≡ []
+  unfolding flags
+  flags-end i h = let s : n - i ≡ 0 = omega arith in rw s
+
+  -- one more entry is written; all are
+  pub mask-next : (mask r : List Bool) (i : ℕ) (b : Bool) → i < n → length mask ≡ n → b ≡ f i
+      → take i mask ++ flags f (n - i) i ≡ r → take (i + 1) (set mask i b) ++ flags f (n - (i + 1)) (i + 1) ≡ r
+  mask-next mask r i b h l q e =
+      let a : take (i + 1) (set mask i b) ≡ take i mask ++ (b ∷ []) = ap (λ (k : ℕ). take k (set mask i b)) (add-one i) ∙ take-suc-set mask i b (omega arith) in
+      rw (a, append-assoc, q) (rw (flags-next i h) at e)
+
+  pub mask-done : (mask r : List Bool) (i : ℕ) → n ≤ i → length mask ≡ n → take i mask ++ flags f (n - i) i ≡ r → mask ≡ r
+  mask-done mask r i h l e = sym (append-nil mask) ∙ (rw (flags-end i h, take-all i mask (omega arith)) at e)
+
+module _ (p : ℕ → Bool) (end : ℕ) where
+  -- one number more: it passes, or it doesn't; none is left
+  pub passing-yes : (i : ℕ) → i < end → p i ≡ true → passing p (end - i) i ≡ i ∷ passing p (end - (i + 1)) (i + 1)
+  unfolding passing gather
+  passing-yes i h e = let s : end - i ≡ suc (end - (i + 1)) = omega arith in rw (s, e)
+
+  pub passing-no : (i : ℕ) → i < end → p i ≡ false → passing p (end - i) i ≡ passing p (end - (i + 1)) (i + 1)
+  unfolding passing gather
+  passing-no i h e = let s : end - i ≡ suc (end - (i + 1)) = omega arith in rw (s, e)
+
+  pub passing-done : (i : ℕ) → end ≤ i → passing p (end - i) i ≡ []
+  unfolding passing gather
+  passing-done i h = let s : end - i ≡ 0 = omega arith in rw s
+
+-- While a set xs is written into a buffer b₀, which has become b: what is still to pass completes it.
+pub record Filling (p : ℕ → Bool) (end : ℕ) (xs b₀ b : List ℕ) (count place : ℕ) : Type 0 where
+  pub low : count ≤ place
+  pub number : count + length (passing p (end - place) place) ≡ length xs
+  pub buffer : sets b count (passing p (end - place) place) ≡ sets b₀ 0 xs
+
+module _ (p : ℕ → Bool) (end : ℕ) (xs b₀ b : List ℕ) (count place : ℕ) where
+  pub fill-begins : (from : ℕ) → xs ≡ passing p (end - from) from → Filling p end xs b₀ b₀ 0 from
+  fill-begins from e = record { low = omega arith; number = omega (arith, ap length e); buffer = rw e }
+
+  pub fill-no : place < end → p place ≡ false → Filling p end xs b₀ b count place → Filling p end xs b₀ b count (place + 1)
+  fill-no h e f = record {
+    low = omega (arith, f .low);
+    number = rw (passing-no p end place h e) at (f .number);
+    buffer = rw (passing-no p end place h e) at (f .buffer);
+  }
+
+  pub fill-yes : place < end → p place ≡ true → Filling p end xs b₀ b count place → Filling p end xs b₀ (set b count place) (count + 1) (place + 1)
+  fill-yes h e f =
+      let n : count + length (place ∷ passing p (end - (place + 1)) (place + 1)) ≡ length xs = rw (passing-yes p end place h e) at (f .number) in
+      let w : sets b count (place ∷ passing p (end - (place + 1)) (place + 1)) ≡ sets b₀ 0 xs = rw (passing-yes p end place h e) at (f .buffer) in
+      record {
+        low = omega (arith, f .low);
+        number = omega (arith, n);
+        buffer = ap (λ (k : ℕ). sets (set b count place) k (passing p (end - (place + 1)) (place + 1))) (add-one count) ∙ w;
+      }
+
+  pub fill-ends : end ≤ place → Filling p end xs b₀ b count place → (count ≡ length xs) × (b ≡ sets b₀ 0 xs)
+  fill-ends h f =
+      let n : count + length {A = ℕ} [] ≡ length xs = rw (passing-done p end place h) at (f .number) in
+      let w : sets b count [] ≡ sets b₀ 0 xs = rw (passing-done p end place h) at (f .buffer) in
+      (omega arith, w)
+
+-- a mask that is not asked for is blank, and one that is asked for is made
+pub mask-blank : (a : Bool) (m : List Bool) → a ≡ false → replicate 373 false ≡ maskWhere a m
+mask-blank a m h = rw h
+
+pub mask-made : (a : Bool) (x m : List Bool) → a ≡ true → x ≡ m → x ≡ maskWhere a m
+mask-made a x m h e = rw h e
+
+pub info-is : (a : Asked) (inyear : Bool) (wkst y : ℕ) (weeknos days : List Bool) (year : Year) (weeks nths : List Bool)
+    → year ≡ yearInfo y → weeks ≡ maskWhere (a .weekno) (weekMask wkst weeknos y) → nths ≡ maskWhere (a .nth) (nthMask inyear year days)
+    → record { year = year; weeks = weeks; nths = nths } ≡ infoOf a inyear wkst weeknos days y
+unfolding infoOf
+info-is a inyear wkst y weeknos days year weeks nths e f g = λ i. record {
+  year = e i;
+  weeks = f i;
+  nths = (g ∙ ap (λ (x : Year). maskWhere (a .nth) (nthMask inyear x days)) e) i;
+}

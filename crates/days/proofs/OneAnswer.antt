@@ -1,0 +1,31 @@
+-- One answer: of each public function, two answers that its promise allows are one, and so are the buffers that it leaves. `Post` is the promise
+-- as the source states it.
+-- Assumes nothing.
+use mathlib.Core.List.{List}
+use Prim.Native.Nat.{ℕ}
+use Rattle.calendar.proofs.Determines.{Determines, DeterminesBuffer, one-answer}
+use Rattle.days.proofs.filters.asked_lists.Kinds as asked-lists-kinds
+use Rattle.days.proofs.filters.asked_lists.Reads as asked-lists
+use Rattle.days.proofs.filters.is_filtered.Kinds as is-filtered-kinds
+use Rattle.days.proofs.filters.is_filtered.Reads as is-filtered
+use Rattle.days.proofs.monthinfo.neg_weekday_mask.Kinds as neg-weekday-mask-kinds
+use Rattle.days.proofs.monthinfo.neg_weekday_mask.Reads as neg-weekday-mask
+use Rattle.days.proofs.iterinfo.rebuild.Kinds as rebuild-kinds
+use Rattle.days.proofs.iterinfo.rebuild.Reads as rebuild
+use Rattle.days.proofs.iterinfo.get_dayset.Kinds as get-dayset-kinds
+use Rattle.days.proofs.iterinfo.get_dayset.Reads as get-dayset
+
+pub asked-lists-has-one : Determines 0 asked-lists-kinds.ps asked-lists-kinds.r asked-lists.Post
+asked-lists-has-one κs a x y e f = one-answer
+
+pub is-filtered-has-one : Determines 2 is-filtered-kinds.ps is-filtered-kinds.r is-filtered.Post
+is-filtered-has-one κs a x y e f = one-answer
+
+pub neg-weekday-mask-has-one : Determines 1 neg-weekday-mask-kinds.ps neg-weekday-mask-kinds.r neg-weekday-mask.Post
+neg-weekday-mask-has-one κs a x y e f = one-answer
+
+pub rebuild-has-one : Determines 1 rebuild-kinds.ps rebuild-kinds.r rebuild.Post
+rebuild-has-one κs a x y e f = one-answer
+
+pub get-dayset-has-one : DeterminesBuffer 3 get-dayset-kinds.ps get-dayset-kinds.r (List ℕ) (λ κs e. e .1 .1 .1 .1 .1 .1 .1 .1 .1 .1 .0 .now) get-dayset.Post
+get-dayset-has-one κs a x y e f p q = (one-answer (p .0) (q .0), one-answer (p .1) (q .1))

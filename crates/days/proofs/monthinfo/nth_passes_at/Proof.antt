@@ -1,0 +1,96 @@
+-- `days::monthinfo::nth_passes_at` meets its contract.
+-- Assumes nothing.
+use Prim.Native.Nat.{_+_, _<_}
+use mathlib.Core.Path.{_≡_, sym, _∙_}
+use mathlib.Core.Bool.{true}
+use native.Mathlib.Omega.{arith}
+use borrow.Author.Tests.{not-false, not-true, ltb-true}
+use Rattle.calendar.specs.Calendar.{daysOf}
+use Rattle.days.specs.Masks.{inTables}
+use Rattle.days.proofs.Rows.{days-high, row, year-day}
+use Rattle.days.proofs.NthLaws.{nth-past, nth-in-year, nth-in-month}
+use borrow.Author.Needs.{needs}
+use Rattle.days.proofs.monthinfo.nth_passes_at.Statement.{statement}
+use Rattle.days.proofs.monthinfo.nth_passes_at.Tie as tie
+
+is-past-requires : tie.Need-is-past-requires
+is-past-requires c κs = search needs
+
+returns : tie.Need-returns
+returns c = let a = c .before .before .args in nth-past (a .inyear) (a .year) (a .byday .now) (a .place) (not-true _ (sym (c .before .is-past .ensures) ∙ c .if1 .taken))
+
+-- the place lies in the tables
+in-tables : (c : tie.Else1) → inTables (c .before .before .args .year .long) (c .before .before .args .place) ≡ true
+in-tables c = not-false _ (sym (c .before .is-past .ensures) ∙ c .if1 .left)
+
+in-place : (c : tie.Else1) → c .before .before .args .place < daysOf (c .before .before .args .year .long) + 7
+in-place c = ltb-true _ _ (in-tables c)
+
+weekday-at-requires : tie.Need-weekday-at-requires
+weekday-at-requires c κs = omega (arith, in-place c, days-high (c .before .before .args .year .long))
+
+year-day-requires : tie.Need-year-day-requires
+year-day-requires c κs = in-place (c .before .before)
+
+year-day-from-end-requires : tie.Need-year-day-from-end-requires
+year-day-from-end-requires c κs = in-place (c .before .before .before)
+
+nth-passes-requires : tie.Need-nth-passes-requires
+nth-passes-requires c κs =
+    let a = c .before .before .before .before .before .before .args in
+    let r = year-day (a .year .long) (a .year .nextlong) (a .place) (in-place (c .before .before .before .before)) in
+    let e = c .before .before .before .weekday-at .ensures in
+    let f = c .before .year-day .ensures in
+    let g = c .year-day-from-end .ensures in
+    (omega arith, omega arith, omega arith, omega arith, omega arith)
+
+returns-2 : tie.Need-returns-2
+returns-2 c =
+    let a = c .before .before .before .before .before .before .before .args in
+    c .nth-passes .ensures ∙ nth-in-year (a .inyear) (a .year) (a .byday .now) (a .place) (c .before .before .before .before .weekday-at .result) (c .before .before .year-day .result) (c .before .year-day-from-end .result)
+    (in-tables (c .before .before .before .before .before)) (c .before .before .before .if2 .taken) (c .before .before .before .before .weekday-at .ensures) (c .before .before .year-day .ensures) (c .before .year-day-from-end .ensures)
+
+month-day-at-requires : tie.Need-month-day-at-requires
+month-day-at-requires c κs = search needs
+
+cast-day : tie.Need-cast-day
+cast-day c = search needs
+
+month-day-from-end-at-requires : tie.Need-month-day-from-end-at-requires
+month-day-from-end-at-requires c κs = search needs
+
+cast-left : tie.Need-cast-left
+cast-left c = search needs
+
+nth-passes-requires-2 : tie.Need-nth-passes-requires-2
+nth-passes-requires-2 c κs =
+    let a = c .before .before .before .before .before .before .args in
+    let r = row (a .year .long) (a .place) (in-place (c .before .before .before .before)) in
+    let e = c .before .before .before .weekday-at .ensures in
+    let f = c .before .month-day-at .ensures in
+    let g = c .month-day-from-end-at .ensures in
+    (omega arith, omega arith, omega arith, omega arith, omega arith)
+
+returns-3 : tie.Need-returns-3
+returns-3 c =
+    let a = c .before .before .before .before .before .before .before .args in
+    c .nth-passes2 .ensures ∙ nth-in-month (a .inyear) (a .year) (a .byday .now) (a .place) (c .before .before .before .before .weekday-at .result) (c .before .before .month-day-at .result) (c .before .month-day-from-end-at .result)
+    (in-tables (c .before .before .before .before .before)) (c .before .before .before .if2 .left) (c .before .before .before .before .weekday-at .ensures) (c .before .before .month-day-at .ensures) (c .before .month-day-from-end-at .ensures)
+
+pub nth-passes-at-spec : {M : Type 1} → statement M
+nth-passes-at-spec =
+    tie.close
+    (tie.spec
+    is-past-requires
+    returns
+    weekday-at-requires
+    year-day-requires
+    year-day-from-end-requires
+    nth-passes-requires
+    returns-2
+    month-day-at-requires
+    cast-day
+    month-day-from-end-at-requires
+    cast-left
+    nth-passes-requires-2
+    returns-3)

@@ -1,0 +1,5 @@
+pub mod Claims
+pub mod DaySets
+pub mod Filters
+pub mod Info
+pub mod Masks
