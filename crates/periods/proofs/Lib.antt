@@ -1,0 +1,4 @@
+pub mod Capped
+pub mod Counted
+pub mod OneAnswer
+pub mod Reach

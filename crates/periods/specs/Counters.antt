@@ -1,0 +1,106 @@
+-- Where period k stands, in whole numbers.
+-- Assumes nothing.
+use Prim.Native.Nat.{ℕ, _+_, _-_, _*_, _/_, _%_, min, max}
+use lib.Dec.{ltb}
+use Rattle.calendar.specs.declared.utils.Date.{Date}
+use Rattle.calendar.specs.Calendar.{if_then_else_, newYear, firstOf, yearOf, dateOf}
+use Rattle.rule.specs.declared.rrule.Frequency.{Frequency}
+use Rattle.rule.specs.declared.rrule.Rule.{Rule}
+use Rattle.rule.specs.Instants.{second, rangeEnd, dayOf}
+use Rattle.rule.specs.Days.{weekOf}
+use Rattle.rule.specs.Filling.{blank}
+use Rattle.rule.specs.Periods.{inRange}
+use Rattle.rule.specs.Moves.{ticks}
+use Rattle.periods.specs.declared.counter_date.Counter.{Counter}
+use Rattle.periods.specs.declared.counter_date.Reached.{Reached}
+use Rattle.periods.specs.declared.counter_date.Days.{Days}
+
+-- how many months there are from the year 0 up to that of the day d; the first day of the month with such a number
+abbrev pub monthsBefore : ℕ → ℕ
+monthsBefore d = let date : Date = dateOf d in 12 * date .year + (date .month - 1)
+
+abbrev pub firstOfMonth : ℕ → ℕ
+firstOfMonth n = firstOf (n / 12) (n % 12 + 1)
+
+-- The number of the period that holds the second s: YEARLY its year, MONTHLY the months from the year 0 on, WEEKLY the first day of its
+-- calendar week; from DAILY on the units of that length before it.
+unfoldable pub numberOf : Frequency → ℕ → ℕ → ℕ
+unfolding yearOf dateOf
+numberOf Frequency.Yearly wkst s = yearOf (dayOf s)
+numberOf Frequency.Monthly wkst s = monthsBefore (dayOf s)
+numberOf Frequency.Weekly wkst s = weekOf wkst (dayOf s)
+numberOf Frequency.Daily wkst s = s / 86400
+numberOf Frequency.Hourly wkst s = s / 3600
+numberOf Frequency.Minutely wkst s = s / 60
+numberOf Frequency.Secondly wkst s = s
+
+-- what INTERVAL adds to the number
+unfoldable pub stepOf : Frequency → ℕ → ℕ
+stepOf Frequency.Yearly interval = interval
+stepOf Frequency.Monthly interval = interval
+stepOf Frequency.Weekly interval = 7 * interval
+stepOf Frequency.Daily interval = interval
+stepOf Frequency.Hourly interval = interval
+stepOf Frequency.Minutely interval = interval
+stepOf Frequency.Secondly interval = interval
+
+-- The counter of period k with this number. Below DAILY the number is cut into the day and the tick: a day has so many periods.
+abbrev pub cut : Frequency → ℕ → ℕ → Counter
+cut freq k n = record { k = k; number = n / ticks freq; tick = n % ticks freq }
+
+-- the counter of period k: the start's number, and what INTERVAL adds to it k times
+unfoldable pub counterAt : Rule → ℕ → Counter
+unfolding numberOf stepOf
+counterAt r k = cut (r .freq) k (numberOf (r .freq) (r .wkst) (second (r .start)) + k * stepOf (r .freq) (r .interval))
+
+-- The rule with these four fields and nothing else. Where a period stands depends on no other (Claims, ReachedByFields).
+unfoldable pub ruleFrom : Frequency → ℕ → ℕ → ℕ → Rule
+unfolding blank
+ruleFrom freq interval wkst start = record {
+  freq = freq;
+  interval = interval;
+  count = blank .count;
+  until = blank .until;
+  wkst = wkst;
+  start = start;
+  bymonth = blank .bymonth;
+  bymonthday = blank .bymonthday;
+  byyearday = blank .byyearday;
+  byweekno = blank .byweekno;
+  byday = blank .byday;
+  byhour = blank .byhour;
+  byminute = blank .byminute;
+  bysecond = blank .bysecond;
+  bysetpos = blank .bysetpos;
+}
+
+-- the counter of period k, where it begins in range
+unfoldable pub reachedAt : Rule → ℕ → Reached
+unfolding counterAt inRange
+reachedAt r k = if inRange r k then Reached.To (counterAt r k) else Reached.Range
+
+-- The days of the period with this number; week period 0 begins on the start's own day d, and a week is cut at the end of 9999.
+unfoldable pub daysAt : Frequency → ℕ → ℕ → Days
+unfolding firstOf
+daysAt Frequency.Yearly d n = record { from = newYear n; to = newYear (n + 1) }
+daysAt Frequency.Monthly d n = record { from = firstOfMonth n; to = firstOfMonth (n + 1) }
+daysAt Frequency.Weekly d n = record { from = max n d; to = min (n + 7) rangeEnd }
+daysAt Frequency.Daily d n = record { from = n; to = n + 1 }
+daysAt Frequency.Hourly d n = record { from = n; to = n + 1 }
+daysAt Frequency.Minutely d n = record { from = n; to = n + 1 }
+daysAt Frequency.Secondly d n = record { from = n; to = n + 1 }
+
+-- the first number whose period begins after 9999
+unfoldable pub limitOf : Frequency → ℕ
+limitOf Frequency.Yearly = 10000
+limitOf Frequency.Monthly = 120000
+limitOf Frequency.Weekly = rangeEnd
+limitOf Frequency.Daily = rangeEnd
+limitOf Frequency.Hourly = rangeEnd
+limitOf Frequency.Minutely = rangeEnd
+limitOf Frequency.Secondly = rangeEnd
+
+-- the days of the period with this number, and none where it begins after 9999
+unfoldable pub daysIn : Frequency → ℕ → ℕ → Days
+unfolding daysAt limitOf
+daysIn freq d n = if ltb n (limitOf freq) then daysAt freq d n else record { from = 0; to = 0 }

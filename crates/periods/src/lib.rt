@@ -1,0 +1,2 @@
+// Where a period stands: its counter, and its days.
+pub mod counter_date;
