@@ -1,0 +1,73 @@
+-- Counters that are so many periods ahead of one.
+-- Assumes nothing.
+use Prim.Native.Nat.{ℕ, _+_, _*_, _/_, _%_, _≤_, _<_}
+use mathlib.Core.Path.{_≡_, refl, sym, ap, _∙_}
+use native.Mathlib.Nat.{add-mul, mul-le-mul, div-le-self, div-add-mod', mod-lt, mod-eq-of-lt, div-eq-of-lt, mul-add-div-right, mul-add-mod-self-right}
+use native.Mathlib.Omega.{arith}
+use Rattle.periods.specs.declared.counter_date.Counter.{Counter}
+use Rattle.moves.specs.Increments.{ahead}
+
+abbrev counter : ℕ → ℕ → ℕ → Counter
+counter k number tick = record { k = k; number = number; tick = tick }
+
+same-counter : {k number tick j day place : ℕ} → k ≡ j → number ≡ day → tick ≡ place → counter k number tick ≡ counter j day place
+same-counter a b c = rw (a, b, c)
+
+-- a number of ticks is cut into days and the tick in one way
+pub day-is : (perday number tick sum : ℕ) → tick < perday → number * perday + tick ≡ sum → number ≡ sum / perday
+day-is perday number tick sum h e =
+    let a : (number * perday + tick) / perday ≡ number + tick / perday = mul-add-div-right (omega arith) number tick in
+    let b : tick / perday ≡ 0 = div-eq-of-lt h in
+    (let d : number ≡ (number * perday + tick) / perday = omega arith in d) ∙ ap (λ (x : ℕ). x / perday) e
+
+tick-is : (perday number tick sum : ℕ) → tick < perday → number * perday + tick ≡ sum → tick ≡ sum % perday
+tick-is perday number tick sum h e = sym (mul-add-mod-self-right number perday tick ∙ mod-eq-of-lt h) ∙ ap (λ (x : ℕ). x % perday) e
+
+-- the counters of a rule whose days have so many periods, each a step apart
+module _ (perday step : ℕ) where
+  abbrev sumAt : Counter → ℕ → ℕ
+  sumAt c n = c .number * perday + c .tick + n * step
+
+  -- what has the right k and the right sum is the counter n periods on
+  pub ahead-is : (c d : Counter) (n : ℕ) → d .k ≡ c .k + n → d .tick < perday → d .number * perday + d .tick ≡ sumAt c n
+      → d ≡ ahead perday step c n
+  unfolding ahead
+  ahead-is c d n e h s =
+      let a : d .number ≡ sumAt c n / perday = day-is perday (d .number) (d .tick) (sumAt c n) h s in
+      let b : d .tick ≡ sumAt c n % perday = tick-is perday (d .number) (d .tick) (sumAt c n) h s in
+      same-counter e a b
+
+  pub ahead-sum : (c : Counter) (n : ℕ) → ahead perday step c n .number * perday + ahead perday step c n .tick ≡ sumAt c n
+  unfolding ahead
+  ahead-sum c n = div-add-mod' (sumAt c n) perday
+
+  module _ (some : 0 < perday) where
+    pub ahead-tick : (c : Counter) (n : ℕ) → ahead perday step c n .tick < perday
+    unfolding ahead
+    ahead-tick c n = mod-lt (sumAt c n) some
+
+    -- no period on is the period itself; and m on, and n on from there, is m + n on
+    pub ahead-none : (c : Counter) → c .tick < perday → c ≡ ahead perday step c 0
+    ahead-none c h = ahead-is c c 0 (omega arith) h (omega arith)
+
+    pub ahead-ahead : (c : Counter) (m n : ℕ) → ahead perday step (ahead perday step c m) n ≡ ahead perday step c (m + n)
+    unfolding ahead
+    ahead-ahead c m n =
+        let d : Counter = ahead perday step c m in
+        let a : ahead perday step d n .number * perday + ahead perday step d n .tick ≡ sumAt d n = ahead-sum d n in
+        let b : d .number * perday + d .tick ≡ sumAt c m = ahead-sum c m in
+        let e : (m + n) * step ≡ m * step + n * step = add-mul m n step in
+        ahead-is c (ahead perday step d n) (m + n) (omega arith) (ahead-tick d n) (omega arith)
+
+  pub ahead-k : (c : Counter) (n : ℕ) → ahead perday step c n .k ≡ c .k + n
+  unfolding ahead
+  ahead-k c n = refl
+
+  -- as far as a cycle of the day leads, nothing wraps
+  pub ahead-fits : (c : Counter) (n : ℕ) → perday ≤ 86400 → step ≤ 65536 * 86400 → c .number ≤ 3652059 → c .tick < perday → n ≤ perday
+      → ahead perday step c n .number ≤ 1152921504606846976
+  unfolding ahead
+  ahead-fits c n p s d t h =
+      let a : c .number * perday ≤ 3652059 * 86400 = mul-le-mul d p in
+      let b : n * step ≤ 86400 * (65536 * 86400) = mul-le-mul (let q : n ≤ 86400 = omega arith in q) s in
+      omega (arith, div-le-self (sumAt c n) perday)

@@ -1,0 +1,175 @@
+-- A step of the code, from where it sets off to where it lands.
+-- Assumes nothing.
+use Prim.Native.Nat.{ℕ, _+_, _-_, _*_, _≤_, _<_}
+use mathlib.Core.Path.{_≡_, refl, sym, ap, _∙_}
+use mathlib.Core.Bool.{Bool, true, false, _&&_}
+use mathlib.Core.List.{List}
+use native.Mathlib.Nat.{zero-div, div-le-self, div-mul-le-self}
+use native.Mathlib.Omega.{arith}
+use borrow.Author.Tests.{ltb-true, leb-true, lt-ltb, le-leb}
+use Rattle.machine.specs.Given.{Move.To}
+use Rattle.rule.specs.declared.rrule.Frequency.{Frequency}
+use Rattle.rule.specs.Filling.{isBelow}
+use Rattle.rule.specs.Moves.{ticks}
+use Rattle.periods.specs.declared.counter_date.Counter.{Counter}
+use Rattle.periods.specs.declared.counter_date.Reached.{Reached}
+use Rattle.periods.specs.Counters.{stepOf, limitOf}
+use Rattle.moves.specs.Increments.{ahead, skipped, firstTick, landing, below, arrive, stands, incremented}
+use Rattle.moves.proofs.Ahead.{day-is, ahead-is, ahead-tick, ahead-none, ahead-k}
+use Rattle.moves.proofs.Searches.{arrived, search-later}
+
+-- ---- bounds
+pub ticks-fit : (freq : Frequency) → ticks freq ≤ 86400
+ticks-fit Frequency.Yearly = omega arith
+ticks-fit Frequency.Monthly = omega arith
+ticks-fit Frequency.Weekly = omega arith
+ticks-fit Frequency.Daily = omega arith
+ticks-fit Frequency.Hourly = omega arith
+ticks-fit Frequency.Minutely = omega arith
+ticks-fit Frequency.Secondly = omega arith
+
+pub limit-fits : (freq : Frequency) → limitOf freq ≤ 3652059
+unfolding limitOf
+limit-fits Frequency.Yearly = omega arith
+limit-fits Frequency.Monthly = omega arith
+limit-fits Frequency.Weekly = omega arith
+limit-fits Frequency.Daily = omega arith
+limit-fits Frequency.Hourly = omega arith
+limit-fits Frequency.Minutely = omega arith
+limit-fits Frequency.Secondly = omega arith
+
+-- ---- the periods passed over unseen
+pub skipped-none : (step tick : ℕ) (b : Bool) → skipped 1 step tick b ≡ 0
+unfolding skipped
+skipped-none step tick true = refl
+skipped-none step tick false = let e : 1 - 1 - tick ≡ 0 = omega arith in rw e (zero-div step)
+
+module _ (perday step : ℕ) (c : Counter) (h : c .tick < perday) where
+  pub skipped-few : (b : Bool) → skipped perday step (c .tick) b ≤ perday
+  unfolding skipped
+  skipped-few true = omega arith
+  skipped-few false = omega (arith, div-le-self (perday - 1 - c .tick) step)
+
+  pub skipped-within : (b : Bool) → c .tick + skipped perday step (c .tick) b * step < perday
+  unfolding skipped
+  skipped-within true = omega arith
+  skipped-within false = omega (arith, div-mul-le-self (perday - 1 - c .tick) step)
+
+  -- they are all on the day of the counter
+  skipped-day : (b : Bool) → ahead perday step c (skipped perday step (c .tick) b) .number ≡ c .number
+  unfolding ahead
+  skipped-day b =
+      let n : ℕ = skipped perday step (c .tick) b in
+      sym (day-is perday (c .number) (c .tick + n * step) (c .number * perday + c .tick + n * step) (skipped-within b) (omega arith))
+
+  -- where the search sets off
+  pub set-off-here : (b : Bool) → b ≡ true → c ≡ ahead perday step c (skipped perday step (c .tick) b)
+  unfolding skipped
+  set-off-here b e = rw e (ahead-none perday step (omega arith) c h)
+
+  pub set-off-late : (b : Bool) (n : ℕ) (d : Counter) → b ≡ false → n ≡ skipped perday step (c .tick) false
+      → d .k ≡ c .k + n → d .number ≡ c .number → d .tick ≡ c .tick + n * step
+      → d ≡ ahead perday step c (skipped perday step (c .tick) b)
+  set-off-late b n d e f x y z =
+      rw (e, ← f) (ahead-is perday step c d n x (let q : c .tick + n * step < perday = rw f (skipped-within false) in omega arith) (rw (y, z) (omega arith)))
+
+  -- so from where the search sets off, a cycle of the day leads nowhere that wraps
+  pub off-fits : (b : Bool) (d : Counter) → d ≡ ahead perday step c (skipped perday step (c .tick) b)
+      → c .k ≤ 1099511627776 → c .number < 3652059 → perday ≤ 86400
+      → (d .k ≤ 1099511714176) × (d .number ≤ 3652059) × (d .tick < perday)
+  off-fits b d e k l p =
+      let n : ℕ = skipped perday step (c .tick) b in
+      let f : n ≤ perday = skipped-few b in
+      let x : d .k ≡ c .k + n = ap (λ (x : Counter). x .k) e ∙ ahead-k perday step c n in
+      let y : d .number ≡ c .number = ap (λ (x : Counter). x .number) e ∙ skipped-day b in
+      (omega arith, omega arith, rw e (ahead-tick perday step (omega arith) c n))
+
+-- ---- the counters that a move starts from
+pub record Stands (freq : Frequency) (interval : ℕ) (c : Counter) : Type 0 where
+  pub some : 1 ≤ interval
+  pub near : c .k ≤ 1099511627776
+  pub inside : c .number < limitOf freq
+  pub tick : c .tick < ticks freq
+
+and-both : (a b : Bool) → (a && b) ≡ true → (a ≡ true) × (b ≡ true)
+and-both true b e = (refl, e)
+and-both false b e = absurd (let z : _≡_ {A = ℕ} 0 1 = cc in omega arith)
+
+module _ (freq : Frequency) (interval : ℕ) (c : Counter) where
+  pub does-stand : stands freq interval c ≡ true → Stands freq interval c
+  unfolding stands
+  does-stand e =
+      let x = and-both _ _ e in
+      let y = and-both _ _ (x .0) in
+      let z = and-both _ _ (y .0) in
+      record { some = ltb-true _ _ (z .0); near = leb-true _ _ (z .1); inside = ltb-true _ _ (y .1); tick = ltb-true _ _ (x .1) }
+
+  pub is-standing : Stands freq interval c → stands freq interval c ≡ true
+  unfolding stands
+  is-standing s = rw (lt-ltb _ _ (s .some), le-leb _ _ (s .near), lt-ltb _ _ (s .inside), lt-ltb _ _ (s .tick))
+
+  module _ (passes : Bool) (clock : List Bool) where
+    abbrev moved : Reached
+    moved = incremented freq interval c passes clock
+
+    pub stays : stands freq interval c ≡ false → Reached.Range ≡ moved
+    unfolding incremented
+    stays e = rw e
+
+    abbrev step : ℕ
+    step = stepOf freq interval
+
+    pub moves : stands freq interval c ≡ true
+        → arrive freq step c (landing freq step c clock (skipped (ticks freq) step (c .tick) passes + 1)) ≡ moved
+    unfolding incremented
+    moves e = rw e
+
+    lands-first : (i : ℕ) → isBelow Frequency.Daily freq ≡ false → landing freq step c clock i ≡ To i
+    unfolding landing
+    lands-first i f = rw f
+
+    lands-tick : (i : ℕ) → isBelow Frequency.Daily freq ≡ true
+        → landing freq step c clock i ≡ firstTick freq step c clock (ticks freq) i
+    unfolding landing
+    lands-tick i f = rw f
+
+    -- down to DAILY
+    pub by-period : (by limit : ℕ) → stands freq interval c ≡ true
+        → isBelow Frequency.Daily freq ≡ false → ticks freq ≡ 1 → step ≡ by → limitOf freq ≡ limit
+        → below limit (ahead 1 by c 1) ≡ moved
+    by-period by limit e f t s l =
+        let n : skipped (ticks freq) step (c .tick) passes ≡ 0 = ap (λ (x : ℕ). skipped x step (c .tick) passes) t ∙ skipped-none _ _ _ in
+        arrived freq limit by 1 c (ahead 1 by c 1) l (ap (λ (x : ℕ). ahead x by c 1) (sym t))
+        ∙ ap (λ (x : ℕ). arrive freq x c (To 1)) (sym s)
+        ∙ ap (λ (x : ℕ). arrive freq step c (To (x + 1))) (sym n)
+        ∙ ap (arrive freq step c) (sym (lands-first _ f))
+        ∙ moves e
+
+    -- below it: so many days and ticks are a step
+    pub by-tick : (perday days hop : ℕ) (from : Counter) → stands freq interval c ≡ true
+        → isBelow Frequency.Daily freq ≡ true → perday ≡ ticks freq → step ≡ interval
+        → days * perday + hop ≡ interval → from ≡ ahead perday interval c (skipped perday interval (c .tick) passes)
+        → arrive freq (days * perday + hop) from (firstTick freq (days * perday + hop) from clock perday 1) ≡ moved
+    by-tick perday days hop from e f t s d g =
+        let h : c .tick < ticks freq = does-stand e .tick in
+        rw (d, g, t)
+        (search-later freq interval c (omega arith) clock (skipped (ticks freq) interval (c .tick) passes) (ticks freq) 1
+        ∙ ap (λ (x : ℕ). arrive freq x c (firstTick freq x c clock (ticks freq) (skipped (ticks freq) x (c .tick) passes + 1))) (sym s)
+        ∙ ap (arrive freq step c) (sym (lands-tick _ f))
+        ∙ moves e)
+
+-- what a counter that stands asks of a step
+module _ (freq : Frequency) (interval : ℕ) (c : Counter) (e : stands freq interval c ≡ true) where
+  pub period-fits : (by : ℕ) → ticks freq ≡ 1 → by ≤ 458745 → (c .k ≤ 1099511627776) × (c .number ≤ 3652059) × (c .tick ≡ 0) × (by ≤ 458745)
+  period-fits by t h = let s : Stands freq interval c = does-stand freq interval c e in (omega arith, omega (arith, limit-fits freq), omega arith, h)
+
+  pub tick-fits : (perday : ℕ) → perday ≡ ticks freq → (c .k ≤ 1099511627776) × (c .tick < perday) × (perday ≤ 86400) × (1 ≤ interval)
+  tick-fits perday t = let s : Stands freq interval c = does-stand freq interval c e in (omega arith, omega arith, omega (arith, ticks-fit freq), omega arith)
+
+  pub search-fits : (perday days hop : ℕ) (passes : Bool) (d : Counter) → perday ≡ ticks freq → limitOf freq ≡ 3652059 → days ≤ 65535 → hop < perday
+      → d ≡ ahead perday interval c (skipped perday interval (c .tick) passes)
+      → ((perday ≡ ticks freq) × (limitOf freq ≡ 3652059) × (days ≤ 65535) × (hop < perday))
+      × ((d .k ≤ 1099511714176) × (d .number ≤ 3652059) × (d .tick < perday))
+  search-fits perday days hop passes d t l a b g =
+      let s : Stands freq interval c = does-stand freq interval c e in
+      ((t, l, a, b), off-fits perday interval c (omega arith) passes d g (omega arith) (omega arith) (omega (arith, ticks-fit freq)))

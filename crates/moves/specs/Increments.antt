@@ -1,0 +1,81 @@
+-- A move, over counters: from the counter of period k to that of the period it goes to.
+-- Assumes nothing.
+use Prim.Native.Nat.{ℕ, _+_, _-_, _*_, _/_, _%_}
+use mathlib.Core.Bool.{Bool, true, false, _&&_}
+use mathlib.Core.List.{List}
+use lib.ListN.{getD}
+use lib.Dec.{leb, ltb}
+use Rattle.calendar.specs.Calendar.{if_then_else_}
+use Rattle.machine.specs.Given.{Move, Move.To, Move.NoTick, Move.Range}
+use Rattle.rule.specs.declared.rrule.Frequency.{Frequency}
+use Rattle.rule.specs.declared.rrule.Rule.{Rule}
+use Rattle.rule.specs.Filling.{isBelow}
+use Rattle.rule.specs.Moves.{ticks, firstFrom}
+use Rattle.periods.specs.declared.counter_date.Counter.{Counter}
+use Rattle.periods.specs.declared.counter_date.Reached.{Reached}
+use Rattle.periods.specs.Counters.{stepOf, counterAt, limitOf}
+
+-- Whether a tick of the day passes: its hour, and its minute and second as far as the frequency fixes them, have their flags.
+unfoldable pub tickIsIn : Frequency → List Bool → ℕ → Bool
+tickIsIn Frequency.Yearly clock t = true
+tickIsIn Frequency.Monthly clock t = true
+tickIsIn Frequency.Weekly clock t = true
+tickIsIn Frequency.Daily clock t = true
+tickIsIn Frequency.Hourly clock t = getD clock t false
+tickIsIn Frequency.Minutely clock t = getD clock (t / 60) false && getD clock (24 + t % 60) false
+tickIsIn Frequency.Secondly clock t = getD clock (t / 3600) false && getD clock (24 + t / 60 % 60) false && getD clock (84 + t % 60) false
+
+-- the counter n periods on, each a step further, where a day has so many periods
+unfoldable pub ahead : ℕ → ℕ → Counter → ℕ → Counter
+ahead perday step c n =
+    let sum : ℕ = c .number * perday + c .tick + n * step in
+    record { k = c .k + n; number = sum / perday; tick = sum % perday }
+
+-- How many periods are passed over unseen: none where the day passes, else those that are left of the day.
+unfoldable pub skipped : ℕ → ℕ → ℕ → Bool → ℕ
+skipped perday step tick true = 0
+skipped perday step tick false = (perday - 1 - tick) / step
+
+-- the first of n periods, from number i after the counter's on, whose tick passes
+unfoldable pub firstTick : Frequency → ℕ → Counter → List Bool → ℕ → ℕ → Move
+unfolding tickIsIn ahead firstFrom
+firstTick freq step c clock n i = firstFrom (λ j. tickIsIn freq clock (ahead (ticks freq) step c j .tick)) n i
+
+-- The period that a move goes to, if no earlier than number i. Down to DAILY it is that; below it the first whose tick passes: the ticks
+-- repeat with the day, so as many as a day has periods are tried.
+unfoldable pub landing : Frequency → ℕ → Counter → List Bool → ℕ → Move
+unfolding firstTick
+landing freq step c clock i =
+    if isBelow Frequency.Daily freq then firstTick freq step c clock (ticks freq) i else To i
+
+-- a counter, where its number is below the first whose period begins after 9999
+unfoldable pub below : ℕ → Counter → Reached
+below limit c = if ltb (c .number) limit then Reached.To c else Reached.Range
+
+-- the counter n periods on, where it begins in range
+unfoldable pub arrive : Frequency → ℕ → Counter → Move → Reached
+unfolding below ahead limitOf
+arrive freq step c (To n) = below (limitOf freq) (ahead (ticks freq) step c n)
+arrive freq step c NoTick = Reached.NoTick
+arrive freq step c Range = Reached.Range
+
+-- Whether a period in range may have this counter, where INTERVAL is at least 1. Its k is at most 2^40, as each period takes a second or more.
+unfoldable pub stands : Frequency → ℕ → Counter → Bool
+unfolding limitOf
+stands freq interval c = ltb 0 interval && leb (c .k) 1099511627776 && ltb (c .number) (limitOf freq) && ltb (c .tick) (ticks freq)
+
+-- The move from a counter, whose day passes or not. From what is no counter of a period in range, Range.
+unfoldable pub incremented : Frequency → ℕ → Counter → Bool → List Bool → Reached
+unfolding stands arrive landing skipped stepOf
+incremented freq interval c passes clock =
+    let step : ℕ = stepOf freq interval in
+    if stands freq interval c
+    then arrive freq step c (landing freq step c clock (skipped (ticks freq) step (c .tick) passes + 1))
+    else Reached.Range
+
+-- a move of a rule, with the counter of the period that it goes to
+unfoldable pub reachedBy : Rule → Move → Reached
+unfolding counterAt
+reachedBy r (To k) = Reached.To (counterAt r k)
+reachedBy r NoTick = Reached.NoTick
+reachedBy r Range = Reached.Range

@@ -1,0 +1,245 @@
+// The increments of a counter.
+use periods::counter_date::Counter;
+use periods::counter_date::Reached;
+use rule::rrule::Frequency;
+ghost use mathlib.Core.Path.{_≡_};
+ghost use mathlib.Core.Bool.{true, false};
+ghost use Prim.Native.Nat.{_+_, _-_, _*_, _<_, _≤_};
+ghost use Rattle.rule.specs.Moves.{ticks};
+ghost use Rattle.periods.specs.Counters.{limitOf};
+ghost use Rattle.moves.specs.Increments.{tickIsIn, ahead, skipped, firstTick, below, arrive, stands, incremented};
+
+// The day after 9999.
+const RANGE_END: u64 = 3652059;
+
+// How many periods a day has.
+fn ticks_of(freq: Frequency) -> u64
+    ensures { λ r. ⌜ r ≡ ticks freq ⌝ }
+{
+    match freq {
+        Frequency::Yearly => 1,
+        Frequency::Monthly => 1,
+        Frequency::Weekly => 1,
+        Frequency::Daily => 1,
+        Frequency::Hourly => 24,
+        Frequency::Minutely => 1440,
+        Frequency::Secondly => 86400,
+    }
+}
+
+// The first number whose period begins after 9999.
+fn limit_of(freq: Frequency) -> u64
+    ensures { λ r. ⌜ r ≡ limitOf freq ⌝ }
+{
+    match freq {
+        Frequency::Yearly => 10000,
+        Frequency::Monthly => 120000,
+        Frequency::Weekly => RANGE_END,
+        Frequency::Daily => RANGE_END,
+        Frequency::Hourly => RANGE_END,
+        Frequency::Minutely => RANGE_END,
+        Frequency::Secondly => RANGE_END,
+    }
+}
+
+// Whether a period in range may have this counter.
+fn can_move(freq: Frequency, interval: u16, counter: Counter) -> bool
+    ensures { λ r. ⌜ r ≡ stands freq interval counter ⌝ }
+{
+    (0 < interval)
+        & (counter.k <= 1099511627776)
+        & (counter.number < limit_of(freq))
+        & (counter.tick < ticks_of(freq))
+}
+
+// The counter, where its period begins in range.
+fn in_range(counter: Counter, limit: u64) -> Reached
+    ensures { λ r. ⌜ r ≡ below limit counter ⌝ }
+{
+    if counter.number < limit {
+        Reached::To(counter)
+    } else {
+        Reached::Range
+    }
+}
+
+// Whether a tick passes, as far as the frequency fixes hour, minute and second.
+fn tick_passes(freq: Frequency, tick: u64, clock: &[bool; 144]) -> bool
+    requires { ⌜ tick < ticks freq ⌝ }
+    ensures { λ r. ⌜ r ≡ tickIsIn freq (now (clock .entry)) tick ⌝ }
+{
+    match freq {
+        Frequency::Yearly => true,
+        Frequency::Monthly => true,
+        Frequency::Weekly => true,
+        Frequency::Daily => true,
+        Frequency::Hourly => clock[tick as usize],
+        Frequency::Minutely => {
+            if !clock[(tick / 60) as usize] {
+                return false;
+            }
+            clock[24 + (tick % 60) as usize]
+        }
+        Frequency::Secondly => {
+            if !clock[(tick / 3600) as usize] {
+                return false;
+            }
+            if !clock[24 + (tick / 60 % 60) as usize] {
+                return false;
+            }
+            clock[84 + (tick % 60) as usize]
+        }
+    }
+}
+
+// The next period down to DAILY.
+fn next_period(counter: Counter, step: u64, limit: u64) -> Reached
+    requires { ⌜ (counter .k ≤ 1099511627776) × (counter .number ≤ 3652059) × (counter .tick ≡ 0) × (step ≤ 458745) ⌝ }
+    ensures { λ r. ⌜ r ≡ below limit (ahead 1 step counter 1) ⌝ }
+{
+    in_range(
+        Counter {
+            k: counter.k + 1,
+            number: counter.number + step,
+            tick: 0,
+        },
+        limit,
+    )
+}
+
+// How many more periods a day has.
+fn left_of_day(perday: u64, tick: u64, step: u64) -> u64
+    requires { ⌜ (tick < perday) × (1 ≤ step) ⌝ }
+    ensures { λ r. ⌜ r ≡ skipped perday step tick false ⌝ }
+{
+    (perday - 1 - tick) / step
+}
+
+// Where the search sets off: at the period itself, or at the last period of its day where that doesn't pass.
+fn set_off(counter: Counter, passes: bool, perday: u64, step: u64) -> Counter
+    requires { ⌜ (counter .k ≤ 1099511627776) × (counter .tick < perday) × (perday ≤ 86400) × (1 ≤ step) ⌝ }
+    ensures { λ r. ⌜ r ≡ ahead perday step counter (skipped perday step (counter .tick) passes) ⌝ }
+{
+    if passes {
+        return counter;
+    }
+    let left = left_of_day(perday, counter.tick, step);
+    Counter {
+        k: counter.k + left,
+        number: counter.number,
+        tick: counter.tick + left * step,
+    }
+}
+
+// The counter of the next period: some days and a hop further, with one carry.
+fn step_on(counter: Counter, perday: u64, days: u64, hop: u64) -> Counter
+    requires { ⌜ (counter .k ≤ 2199023255552) × (counter .number ≤ 1152921504606846976) × (counter .tick < perday)
+        × (perday ≤ 86400) × (days ≤ 65535) × (hop < perday) ⌝ }
+    ensures { λ r. ⌜ r ≡ ahead perday (days * perday + hop) counter 1 ⌝ }
+{
+    let tick = counter.tick + hop;
+    if tick < perday {
+        return Counter {
+            k: counter.k + 1,
+            number: counter.number + days,
+            tick,
+        };
+    }
+    Counter {
+        k: counter.k + 1,
+        number: counter.number + days + 1,
+        tick: tick - perday,
+    }
+}
+
+// Below DAILY: the first later period whose tick passes, of one cycle of the day.
+fn next_tick(
+    freq: Frequency,
+    perday: u64,
+    days: u64,
+    hop: u64,
+    from: Counter,
+    clock: &[bool; 144],
+) -> Reached
+    requires { ⌜ (perday ≡ ticks freq) × (limitOf freq ≡ 3652059) × (days ≤ 65535) × (hop < perday) ⌝ }
+    requires { ⌜ (from .k ≤ 1099511714176) × (from .number ≤ 3652059) × (from .tick < perday) ⌝ }
+    ensures { λ r. ⌜ r ≡ arrive freq (days * perday + hop) from
+        (firstTick freq (days * perday + hop) from (now (clock .entry)) perday 1) ⌝ }
+{
+    let mut at = from;
+    let mut n: u64 = 0;
+    while n < perday {
+        at = step_on(at, perday, days, hop);
+        if tick_passes(freq, at.tick, clock) {
+            return in_range(at, RANGE_END);
+        }
+        n += 1;
+    }
+    Reached::NoTick
+}
+
+// HOURLY: a day has 24 periods.
+fn increment_hourly(interval: u64, counter: Counter, passes: bool, clock: &[bool; 144]) -> Reached
+    requires { ⌜ (stands Frequency.Hourly interval counter ≡ true) × (interval ≤ 65535) ⌝ }
+    ensures { λ r. ⌜ r ≡ incremented Frequency.Hourly interval counter passes (now (clock .entry)) ⌝ }
+{
+    let from = set_off(counter, passes, 24, interval);
+    next_tick(
+        Frequency::Hourly,
+        24,
+        interval / 24,
+        interval % 24,
+        from,
+        clock,
+    )
+}
+
+// MINUTELY: a day has 1,440 periods.
+fn increment_minutely(interval: u64, counter: Counter, passes: bool, clock: &[bool; 144]) -> Reached
+    requires { ⌜ (stands Frequency.Minutely interval counter ≡ true) × (interval ≤ 65535) ⌝ }
+    ensures { λ r. ⌜ r ≡ incremented Frequency.Minutely interval counter passes (now (clock .entry)) ⌝ }
+{
+    let from = set_off(counter, passes, 1440, interval);
+    next_tick(
+        Frequency::Minutely,
+        1440,
+        interval / 1440,
+        interval % 1440,
+        from,
+        clock,
+    )
+}
+
+// SECONDLY: a day has 86,400 periods, more than INTERVAL can be.
+fn increment_secondly(interval: u64, counter: Counter, passes: bool, clock: &[bool; 144]) -> Reached
+    requires { ⌜ (stands Frequency.Secondly interval counter ≡ true) × (interval ≤ 65535) ⌝ }
+    ensures { λ r. ⌜ r ≡ incremented Frequency.Secondly interval counter passes (now (clock .entry)) ⌝ }
+{
+    let from = set_off(counter, passes, 86400, interval);
+    next_tick(Frequency::Secondly, 86400, 0, interval, from, clock)
+}
+
+// The move from a period, whose day passes or not; the clock has the flags of the hours, minutes and seconds that pass, in a row.
+pub fn increment(
+    freq: Frequency,
+    interval: u16,
+    counter: Counter,
+    passes: bool,
+    clock: &[bool; 144],
+) -> Reached
+    ensures { λ r. ⌜ r ≡ incremented freq interval counter passes (now (clock .entry)) ⌝ }
+{
+    if !can_move(freq, interval, counter) {
+        return Reached::Range;
+    }
+    let step = interval as u64;
+    match freq {
+        Frequency::Yearly => next_period(counter, step, 10000),
+        Frequency::Monthly => next_period(counter, step, 120000),
+        Frequency::Weekly => next_period(counter, 7 * step, RANGE_END),
+        Frequency::Daily => next_period(counter, step, RANGE_END),
+        Frequency::Hourly => increment_hourly(step, counter, passes, clock),
+        Frequency::Minutely => increment_minutely(step, counter, passes, clock),
+        Frequency::Secondly => increment_secondly(step, counter, passes, clock),
+    }
+}
