@@ -1,8 +1,9 @@
 // A year as the day sets need it, and which of its days pass BYWEEKNO.
 use calendar::utils;
 ghost use mathlib.Core.Path.{_≡_};
-ghost use Prim.Native.Nat.{min, _+_, _-_, _≤_};
+ghost use Prim.Native.Nat.{min, _+_, _-_, _%_, _≤_};
 ghost use lib.ListN.{length};
+ghost use Rattle.calendar.specs.Calendar.{newYear};
 ghost use Rattle.rule.specs.Days.{week1};
 ghost use Rattle.weeks.specs.Weeks.{yearInfo, hasMask, weekMask, weeksAround, Counted, passesAround, slotsPass, Marked};
 
@@ -88,13 +89,21 @@ fn weeks_around(wkst: u8, year: u32) -> Weeks
     }
 }
 
+// How many days of 1 January's week lie before it.
+fn days_past(wkst: u8, year: u32) -> u64
+    requires { ⌜ wkst ≤ 6 ⌝ }
+    ensures { λ r. ⌜ r ≡ (newYear year + 7 - wkst) % 7 ⌝ }
+{
+    ((utils::weekday_of_new_year(year) + 7 - wkst) % 7) as u64
+}
+
 // The first day of week 1: the first week with four or more days in the year.
 fn week_one(wkst: u8, year: u32) -> u64
     requires { ⌜ (wkst ≤ 6) × (2 ≤ year) × (year ≤ 10001) ⌝ }
     ensures { λ r. ⌜ r ≡ week1 wkst year ⌝ }
 {
     let start = utils::days_before_year(year);
-    let past = (start + 7 - (wkst as u64)) % 7;
+    let past = days_past(wkst, year);
     if past < 4 {
         start - past
     } else {
