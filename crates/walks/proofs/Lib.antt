@@ -1,0 +1,9 @@
+pub mod ByBounds
+pub mod Cases
+pub mod Keeps
+pub mod OneAnswer
+pub mod PassLaws
+pub mod Passing
+pub mod ReadBack
+pub mod SecondLaws
+pub mod WalkLaws

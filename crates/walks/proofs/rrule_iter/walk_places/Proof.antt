@@ -1,0 +1,217 @@
+-- `walks::rrule_iter::walk_places` meets its contract. The loop's invariant: what is left of the walk gives what the whole gives.
+-- Assumes nothing.
+use Prim.Native.Nat.{ℕ, _+_, _*_, _-_, _≤_, _<_, _^_}
+use mathlib.Core.Path.{_≡_, refl, sym, ap, _∙_}
+use mathlib.Core.Bool.{true, false}
+use mathlib.Core.List.{List}
+use lib.ListN.{length, length-set}
+use native.Mathlib.Omega.{arith}
+use borrow.Author.Needs.{needs}
+use Rattle.machine.specs.Given.{above}
+use Rattle.walks.specs.declared.rrule_iter.Why.{Why}
+use Rattle.walks.specs.Walks.{boundOf, secondChosen, walkFrom}
+use Rattle.walks.proofs.SecondLaws.{second-chosen}
+use Rattle.walks.proofs.WalkLaws.{stops, rest-over, rest-full, rest-until, rest-pass, rest-count, rest-hand}
+use Rattle.walks.proofs.rrule_iter.walk_places.Statement.{statement}
+use Rattle.walks.proofs.rrule_iter.walk_places.Tie as tie
+
+abbrev Inv-loop : tie.InvT-loop
+Inv-loop frame bounds kept places days lists buffer₀ why₀ at₀ i₀ buffer why at i =
+    (why ≡ Why.Through) × (at .place ≡ i) × (at₀ .handed ≤ at .handed) × (at .number + at₀ .handed ≡ at₀ .number + at .handed)
+    × (at .handed ≤ length buffer) × (length buffer ≡ length buffer₀)
+    × (walkFrom bounds (secondChosen frame days lists places) kept at₀ buffer₀ ≡ walkFrom bounds (secondChosen frame days lists places) kept at buffer)
+
+abbrev μ-loop : tie.MeasureT-loop
+μ-loop frame bounds kept places days lists buffer₀ why₀ at₀ i₀ buffer why at i = kept - i
+
+-- a slot is free
+free : (c : tie.Else1 Inv-loop μ-loop) →
+    let l = c .before .before in
+    l .loop .at .handed ≡ length (l .loop .buffer) → ⊥
+free c e = omega (arith, e, c .if1 .left)
+
+-- the candidate in hand, as the second that the code has
+in-hand : (c : tie.After-second-at Inv-loop μ-loop) →
+    let l = c .before .before .before .before in
+    let a = l .before .before .before .args in
+    c .second-at .result ≡ secondChosen (a .frame) (a .days .now) (a .lists .now) (a .places .now) (l .loop .at .place)
+in-hand c =
+    let l = c .before .before .before .before in
+    second-chosen _ _ _ _ _ (l .loop .i) _ (l .loop .inv .1) (c .second-at .ensures)
+
+-- it is not above UNTIL
+on-time : (c : tie.Else2 Inv-loop μ-loop) →
+    let k = c .before .before in
+    above (boundOf (k .before .before .before .before .before .before .before .args .bounds .until)) (k .second-at .result) ≡ false
+on-time c = sym (c .before .is-late .ensures) ∙ c .if2 .left
+
+-- the buffer is short enough that neither count can wrap
+room : (c : tie.At-loop Inv-loop μ-loop) → length (c .loop .buffer) * 8 < 2 ^ 63
+room c = rw (c .loop .inv .5) (c .before .before .before .good .1 .1 .1 .1 .1 .1 .1 .0 .1)
+
+number-small : (c : tie.At-loop Inv-loop μ-loop) → c .loop .at .number < 2 ^ 63
+number-small c =
+    let r : length (c .loop .buffer) * 8 < 2 ^ 63 = room c in
+    let p : c .before .before .before .args .held .number ≤ 2 ^ 62 = c .before .before .before .pre .2 .number in
+    omega (arith, c .loop .inv .2, c .loop .inv .3, c .loop .inv .4)
+
+handed-small : (c : tie.At-loop Inv-loop μ-loop) → c .loop .at .handed < 2 ^ 63
+handed-small c = omega (arith, room c, c .loop .inv .4)
+
+cast-i : tie.Need-cast-i Inv-loop μ-loop
+cast-i c = search needs
+
+loop-holds : tie.Need-loop-holds Inv-loop μ-loop
+loop-holds c =
+    (refl, refl, search needs, search needs, search needs, refl, refl)
+
+mul-second-at : tie.Need-mul-second-at Inv-loop μ-loop
+mul-second-at c = search needs
+
+element-copy-out-second-at : tie.Need-element-copy-out-second-at Inv-loop μ-loop
+element-copy-out-second-at c = search needs
+
+second-at-requires : tie.Need-second-at-requires Inv-loop μ-loop
+second-at-requires c κs = search needs
+
+is-late-requires : tie.Need-is-late-requires Inv-loop μ-loop
+is-late-requires c κs = search needs
+
+add-at : tie.Need-add-at Inv-loop μ-loop
+add-at c = search needs
+
+add-i : tie.Need-add-i Inv-loop μ-loop
+add-i c = search needs
+
+loop-less : tie.Need-loop-less Inv-loop μ-loop
+loop-less c = search needs
+
+loop-again : tie.Need-loop-again Inv-loop μ-loop
+loop-again c =
+    let k = c .before .before .before .before .before in
+    let e = k .before .before in
+    let l = e .before .before in (
+      l .loop .inv .0,
+      omega arith,
+      omega arith,
+      omega arith,
+      omega arith,
+      omega arith,
+      l .loop .inv .6
+          ∙ rest-pass _ _ _ _ _ (omega arith) _ (in-hand k) (free e) (on-time (c .before .before .before)) (c .if3 .taken),
+    )
+
+sub-buffer : tie.Need-sub-buffer Inv-loop μ-loop
+sub-buffer c = search needs
+
+mul-buffer : tie.Need-mul-buffer Inv-loop μ-loop
+mul-buffer c = omega (arith, room (c .before .before .before .before .before .before .before .before .before))
+
+slice-write-buffer : tie.Need-slice-write-buffer Inv-loop μ-loop
+slice-write-buffer c = search needs
+
+add-at-2 : tie.Need-add-at-2 Inv-loop μ-loop
+add-at-2 c = record { fits = omega (arith, number-small (c .before .before .before .before .before .before .before .before .before .before)) }
+
+add-at-3 : tie.Need-add-at-3 Inv-loop μ-loop
+add-at-3 c = record { fits = omega (arith, handed-small (c .before .before .before .before .before .before .before .before .before .before .before)) }
+
+is-reached-requires : tie.Need-is-reached-requires Inv-loop μ-loop
+is-reached-requires c κs = search needs
+
+add-i-2 : tie.Need-add-i-2 Inv-loop μ-loop
+add-i-2 c = search needs
+
+loop-less-2 : tie.Need-loop-less-2 Inv-loop μ-loop
+loop-less-2 c = search needs
+
+loop-again-2 : tie.Need-loop-again-2 Inv-loop μ-loop
+loop-again-2 c =
+    let t = c .before .before .before .before in
+    let k = t .before .before .before .before .before in
+    let e = k .before .before in
+    let l = e .before .before in (
+      l .loop .inv .0,
+      omega arith,
+      omega arith,
+      omega arith,
+      simp length-set (omega arith),
+      simp length-set (omega arith),
+      l .loop .inv .6
+          ∙ rest-hand _ _ _ _ _ (omega arith) _ (in-hand k) (free e) (on-time (t .before .before .before)) (t .if3 .left)
+          (sym (c .before .is-reached .ensures) ∙ c .if4 .left),
+    )
+
+same-length : tie.Need-same-length Inv-loop μ-loop
+same-length c = search needs
+
+returns : tie.Need-returns Inv-loop μ-loop
+returns c =
+    let l = c .before in
+    sym (l .loop .inv .6 ∙ rest-over _ _ _ _ _ (omega arith) ∙ ap (λ (w : Why). stops w (l .loop .at) (l .loop .buffer)) (sym (l .loop .inv .0)))
+
+same-length-2 : tie.Need-same-length-2 Inv-loop μ-loop
+same-length-2 c = search needs
+
+returns-2 : tie.Need-returns-2 Inv-loop μ-loop
+returns-2 c =
+    let l = c .before .before in
+    sym (l .loop .inv .6 ∙ rest-full _ _ _ _ _ (omega arith) (c .if1 .taken))
+
+same-length-3 : tie.Need-same-length-3 Inv-loop μ-loop
+same-length-3 c = search needs
+
+returns-3 : tie.Need-returns-3 Inv-loop μ-loop
+returns-3 c =
+    let k = c .before .before in
+    let e = k .before .before in
+    let l = e .before .before in
+    sym (l .loop .inv .6 ∙ rest-until _ _ _ _ _ (omega arith) _ (in-hand k) (free e) (sym (c .before .is-late .ensures) ∙ c .if2 .taken))
+
+same-length-4 : tie.Need-same-length-4 Inv-loop μ-loop
+same-length-4 c = search needs
+
+returns-4 : tie.Need-returns-4 Inv-loop μ-loop
+returns-4 c =
+    let t = c .before .before .before .before in
+    let k = t .before .before .before .before .before in
+    let e = k .before .before in
+    let l = e .before .before in
+    sym
+    (l .loop .inv .6
+    ∙ rest-count _ _ _ _ _ (omega arith) _ (in-hand k) (free e) (on-time (t .before .before .before)) (t .if3 .left)
+    (sym (c .before .is-reached .ensures) ∙ c .if4 .taken))
+
+pub walk-places-spec : {M : Type 1} → statement M
+walk-places-spec =
+    tie.close
+    (tie.spec
+    Inv-loop
+    μ-loop
+    cast-i
+    loop-holds
+    mul-second-at
+    element-copy-out-second-at
+    second-at-requires
+    is-late-requires
+    add-at
+    add-i
+    loop-less
+    loop-again
+    sub-buffer
+    mul-buffer
+    slice-write-buffer
+    add-at-2
+    add-at-3
+    is-reached-requires
+    add-i-2
+    loop-less-2
+    loop-again-2
+    same-length
+    returns
+    same-length-2
+    returns-2
+    same-length-3
+    returns-3
+    same-length-4
+    returns-4)

@@ -1,0 +1,44 @@
+-- Days that are passed at one go: those at the head that lie before the start.
+-- Assumes nothing.
+use Prim.Native.Nat.{ℕ, zero, suc, _+_, _-_, _*_, _/_, _%_, _<_}
+use mathlib.Core.Bool.{Bool, true, false, not, _&&_}
+use mathlib.Core.List.{List}
+use lib.ListN.{getD}
+use lib.Dec.{eqb, ltb}
+use Rattle.machine.specs.Given.{above}
+use Rattle.times.specs.TimeSets.{timeAt}
+use Rattle.walks.specs.declared.rrule_iter.Held.{Held}
+use Rattle.walks.specs.declared.rrule_iter.Bounds.{Bounds}
+use Rattle.walks.specs.declared.rrule_iter.Frame.{Frame}
+use Rattle.walks.specs.Walks.{boundOf}
+
+-- A day may be passed, by its last second: that is before the start, and not above UNTIL.
+abbrev pub isPassed : Bounds → ℕ → Bool
+isPassed b last = ltb last (b .start) && not (above (boundOf (b .until)) last)
+
+-- the last second of day number d
+abbrev pub lastOf : Frame → List ℕ → ℕ → ℕ
+lastOf f days d = (f .first + getD days d 0) * 86400 + 86399
+
+-- how many days at the head may be passed, of n from number d on
+unfoldable pub passable : Bounds → Frame → List ℕ → (d n : ℕ) → ℕ
+passable b f days d zero = 0
+passable b f days d (suc n) = elim (isPassed b (lastOf f days d)) [
+  | true ↦ suc (passable b f days (d + 1) n)
+  | false ↦ 0
+]
+
+-- the same, at another place
+abbrev pub heldAt : Held → ℕ → Held
+heldAt h place = record { k = h .k; place = place; number = h .number; moves = h .moves; handed = h .handed }
+
+-- What a call holds when those days are passed. None is where the buffer is full, or the place is within a day.
+unfoldable pub passedDays : Bool → Frame → Bounds → Held → List ℕ → Held
+passedDays full f b h days = elim (not full && eqb (h .place % f .times) 0) [
+  | true ↦ heldAt h (h .place + passable b f days (h .place / f .times) (f .days - h .place / f .times) * f .times)
+  | false ↦ h
+]
+
+-- every time of a period is within its day
+abbrev pub Timely : Frame → List ℕ → Type 0
+Timely f lists = (t : ℕ) → t < f .times → timeAt (f .freq) (f .begins) (f .counts) lists t < 86400
