@@ -1,0 +1,55 @@
+-- What a walk asks of a period that is opened, and what becomes of a call after it.
+-- Assumes nothing.
+use Prim.Native.Nat.{ℕ, _+_, _*_, _≤_, _<_}
+use mathlib.Core.Path.{_≡_}
+use mathlib.Core.List.{List}
+use mathlib.Core.Bool.{Bool, true, false}
+use lib.Dec.{eqb}
+use Rattle.machine.specs.declared.Cause.{Cause}
+use Rattle.machine.specs.declared.State.{State}
+use Rattle.machine.specs.declared.Stop.{Stop}
+use Rattle.machine.specs.declared.Cursor.{Cursor}
+use Rattle.machine.specs.declared.Answer.{Answer}
+use Rattle.times.specs.TimeSets.{timeAt}
+use Rattle.walks.specs.declared.rrule_iter.Frame.{Frame}
+use Rattle.walks.specs.Walks.{Framed}
+use Rattle.walks.specs.declared.rrule_iter.Why.{Why}
+use Rattle.walks.specs.declared.rrule_iter.Held.{Held}
+use Rattle.walks.specs.declared.rrule_iter.Walked.{Walked}
+use Rattle.listing.specs.declared.rrule_iter.Settled.{Settled}
+
+-- what a walk asks of a frame: its numbers are small, its times lie in a day, and as many are kept as it says
+pub record Sound (positioned : Bool) (f : Frame) (kept : ℕ) (lists : List ℕ) : Type 0 where
+  pub framed : Framed f
+  pub kept-is : positioned ≡ false → kept ≡ f .days * f .times
+  pub kept-high : positioned ≡ true → kept ≤ 732
+  pub time-high : (t : ℕ) → t < f .times → timeAt (f .freq) (f .begins) (f .counts) lists t < 86400
+
+-- what a call holds as it begins; the answer that it gives of what it holds; and what it holds after a move
+abbrev pub heldOf : Cursor → Held
+heldOf c = record { k = c .k; place = c .place; number = c .number; moves = 0; handed = 0 }
+
+abbrev pub answerOf : Stop → State → Held → Answer
+answerOf stop state h = record {
+  stop = stop;
+  cursor = record { state = state; k = h .k; place = h .place; number = h .number };
+  moves = h .moves;
+  handed = h .handed;
+}
+
+abbrev pub movedTo : ℕ → Held → Held
+movedTo k h = record { k = k; place = 0; number = h .number; moves = h .moves + 1; handed = h .handed }
+
+-- no candidate remains: stop with More where the buffer is full, with Limited where m moves are made
+abbrev pub settledThrough : (full spent : Bool) → Held → Settled
+settledThrough true spent h = Settled.Stops (answerOf Stop.More State.Running h)
+settledThrough false true h = Settled.Stops (answerOf Stop.Limited State.Running h)
+settledThrough false false h = Settled.Moves
+
+unfoldable pub settled : Walked → (room m : ℕ) → Settled
+settled w room m = elim (w .why) [
+  | Why.Full ↦ Settled.Stops (answerOf Stop.More State.Running (w .held))
+  | Why.Until ↦ Settled.Stops (answerOf Stop.Ended (State.Ended Cause.Until) (w .held))
+  | Why.Count ↦ Settled.Stops (answerOf Stop.Ended (State.Ended Cause.Count) (w .held))
+  | Why.Through ↦ settledThrough (eqb (w .held .handed) room) (eqb (w .held .moves) m) (w .held)
+]

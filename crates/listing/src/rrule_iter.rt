@@ -1,0 +1,241 @@
+// The run: a rule's due instants, from a cursor on, into a lent buffer, with a budget of moves.
+use crate::cursors::is_poised;
+use crate::opening::covers;
+use crate::opening::frame_of;
+use crate::opening::kept_of;
+use crate::plan::Plan;
+use crate::plan::plan_of;
+use crate::walking::walk_period;
+use calendar::utils::year_of_day;
+use days::iterinfo::get_dayset;
+use days::iterinfo::rebuild;
+use machine::Answer;
+use machine::Cause;
+use machine::Cursor;
+use machine::Fault;
+use machine::State;
+use machine::Stop;
+use machine::refused;
+use moves::counter_date::increment;
+use periods::counter_date::Counter;
+use periods::counter_date::Reached;
+use periods::counter_date::counter_at;
+use periods::counter_date::days_of;
+use rule::rrule::Rule;
+use validator::records::is_record;
+use walks::rrule_iter::Held;
+use walks::rrule_iter::Walked;
+use walks::rrule_iter::Why;
+ghost use mathlib.Core.Path.{_≡_};
+ghost use mathlib.Core.Bool.{true};
+ghost use Prim.Native.Nat.{_<_};
+ghost use Rattle.machine.specs.declared.State.{State};
+ghost use Rattle.machine.specs.Cursors.{poised};
+ghost use Rattle.machine.specs.Calls.{beside, answered};
+ghost use Rattle.machine.specs.Compute.{runs};
+ghost use Rattle.rule.specs.Records.{yielded};
+ghost use Rattle.rule.specs.Run.{periods, runOf};
+ghost use Rattle.periods.specs.Counters.{counterAt};
+ghost use Rattle.walks.specs.Walks.{nowOf};
+ghost use Rattle.listing.specs.Plans.{planOf};
+ghost use Rattle.listing.specs.Settling.{answerOf, heldOf, movedTo, settled};
+
+// What becomes of a call after a walk: it stops with its answer, or moves on.
+pub(crate) enum Settled {
+    Stops(Answer),
+    Moves,
+}
+
+fn answer(stop: Stop, state: State, held: Held) -> Answer
+    ensures { λ r. ⌜ r ≡ answerOf stop state held ⌝ }
+{
+    let cursor = Cursor {
+        state,
+        k: held.k,
+        place: held.place,
+        number: held.number,
+    };
+    Answer {
+        stop,
+        cursor,
+        moves: held.moves,
+        handed: held.handed,
+    }
+}
+
+fn ended(cause: Cause, held: Held) -> Answer
+    ensures { λ r. ⌜ r ≡ answerOf Stop.Ended (State.Ended cause) held ⌝ }
+{
+    let state = State::Ended(cause);
+    answer(Stop::Ended, state, held)
+}
+
+// None remains: with the buffer full, stop with More; with m moves made, with Limited.
+fn settle(walked: Walked, room: usize, m: u32) -> Settled
+    ensures { λ r. ⌜ r ≡ settled walked room m ⌝ }
+{
+    let held = walked.held;
+    let why = walked.why;
+    match why {
+        Why::Full => return Settled::Stops(answer(Stop::More, State::Running, held)),
+        Why::Until => return Settled::Stops(ended(Cause::Until, held)),
+        Why::Count => return Settled::Stops(ended(Cause::Count, held)),
+        Why::Through => {}
+    }
+    if held.handed == room {
+        return Settled::Stops(answer(Stop::More, State::Running, held));
+    }
+    if held.moves == m {
+        return Settled::Stops(answer(Stop::Limited, State::Running, held));
+    }
+    Settled::Moves
+}
+
+fn held_at(cursor: Cursor) -> Held
+    ensures { λ r. ⌜ r ≡ heldOf cursor ⌝ }
+{
+    Held {
+        k: cursor.k,
+        place: cursor.place,
+        number: cursor.number,
+        moves: 0,
+        handed: 0,
+    }
+}
+
+// A move sets the place to zero, and is counted.
+fn moved_to(k: u64, held: Held) -> Held
+    requires { ⌜ held .moves < 4294967295 ⌝ }
+    ensures { λ r. ⌜ r ≡ movedTo k held ⌝ }
+{
+    Held {
+        k,
+        place: 0,
+        number: held.number,
+        moves: held.moves + 1,
+        handed: held.handed,
+    }
+}
+
+// The run of a good record from a running cursor that is well formed.
+fn run_on(
+    rule: Rule,
+    plan: Plan,
+    first: Counter,
+    cursor: Cursor,
+    buffer: &mut [u64],
+    m: u32,
+) -> Answer
+    requires { ⌜ (yielded rule ≡ true) × (plan ≡ planOf rule) × (first ≡ counterAt rule (cursor .k)) × (cursor .state ≡ State.Running) × (poised (periods rule) cursor ≡ true) ⌝ }
+    ensures { λ r. ⌜ beside r (now (buffer .exit)) ≡ answered (runs (periods rule) m (nowOf State.Running (heldOf cursor) (now (buffer .entry)))) ⌝ }
+{
+    let freq = plan.freq;
+    let mut counter = first;
+    let mut held = held_at(cursor);
+    let mut days = [0; 373];
+    let mut places = [0; 732];
+    let begun = days_of(freq, plan.startday, counter.number);
+    let mut info = rebuild(
+        plan.asked,
+        plan.inyear,
+        plan.wkst,
+        year_of_day(begun.from as u32),
+        &rule.byweekno,
+        &rule.byday,
+    );
+    loop {
+        let span = days_of(freq, plan.startday, counter.number);
+        if !covers(info.year, span.from) {
+            info = rebuild(
+                plan.asked,
+                plan.inyear,
+                plan.wkst,
+                year_of_day(span.from as u32),
+                &rule.byweekno,
+                &rule.byday,
+            );
+            continue;
+        }
+        let year = info.year;
+        let from = (span.from - year.first) as usize;
+        let to = (span.to - year.first) as usize;
+        let count = get_dayset(
+            plan.asked,
+            year,
+            from,
+            to,
+            &rule.bymonth,
+            &rule.bymonthday,
+            &rule.byyearday,
+            &rule.byday,
+            &info.weeks,
+            &info.nths,
+            &mut days,
+        );
+        let frame = frame_of(
+            freq,
+            plan.counts,
+            counter.tick,
+            year.first,
+            count,
+            &plan.clock,
+        );
+        let kept = kept_of(
+            plan.positioned,
+            &rule.bysetpos,
+            frame.days,
+            frame.times,
+            &mut places,
+        );
+        let walked = walk_period(
+            plan.positioned,
+            frame,
+            plan.bounds,
+            held,
+            kept,
+            &days,
+            &plan.lists,
+            &places,
+            buffer,
+        );
+        held = walked.held;
+        match settle(walked, buffer.len(), m) {
+            Settled::Stops(answer) => return answer,
+            Settled::Moves => {}
+        }
+        match increment(freq, plan.interval, counter, 0 < frame.days, &plan.clock) {
+            Reached::To(next) => {
+                counter = next;
+                held = moved_to(next.k, held);
+            }
+            Reached::NoTick => return ended(Cause::NoTick, held),
+            Reached::Range => return ended(Cause::Range, held),
+        }
+    }
+}
+
+// The run of a record, from a cursor, with a buffer and a budget of moves.
+pub fn run(rule: Rule, cursor: Cursor, buffer: &mut [u64], m: u32) -> Answer
+    ensures { λ r. ⌜ beside r (now (buffer .exit)) ≡ runOf rule cursor (now (buffer .entry)) m ⌝ }
+{
+    if !is_record(rule) {
+        return refused(Fault::Record, cursor);
+    }
+    let state = cursor.state;
+    match state {
+        State::Ended(_) => return answer(Stop::Ended, state, held_at(cursor)),
+        State::Running => {}
+    }
+    let plan = plan_of(rule);
+    let freq = rule.freq;
+    match counter_at(freq, rule.interval, rule.wkst, rule.start, cursor.k) {
+        Reached::To(counter) => {
+            if !is_poised(rule, plan, cursor) {
+                return refused(Fault::Cursor, cursor);
+            }
+            run_on(rule, plan, counter, cursor, buffer, m)
+        }
+        Reached::NoTick => refused(Fault::Cursor, cursor),
+        Reached::Range => refused(Fault::Cursor, cursor),
+    }
+}
