@@ -15,7 +15,7 @@ use Rattle.rule.specs.declared.rrule.Until.{Until}
 use Rattle.rule.specs.declared.rrule.Refusal.{Refusal}
 use Rattle.rule.specs.Raw.{raw, rawLists}
 use Rattle.rule.specs.Filling.{given, fill}
-use Rattle.charts.specs.Play.{of, at, told, Outcome.refused, play, playFrom, onGiven, onFilled}
+use Rattle.cases.specs.Play.{of, at, told, Outcome.refused, play, playFrom, onGiven, onFilled}
 
 -- DAILY, nothing filled in: 20
 bad-record-1 :

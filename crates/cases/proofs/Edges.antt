@@ -13,7 +13,7 @@ use Rattle.machine.specs.Run.{atCandidate, counted, moveOn}
 use Rattle.rule.specs.declared.rrule.Count.{Count}
 use Rattle.rule.specs.declared.rrule.Until.{Until}
 use Rattle.rule.specs.Raw.{raw, rawLists}
-use Rattle.charts.specs.Play.{of, at, told, Outcome.answers, play, playFrom}
+use Rattle.cases.specs.Play.{of, at, told, Outcome.answers, play, playFrom}
 
 -- 53MO in 2024
 edge-53a :

@@ -14,7 +14,7 @@ use Rattle.rule.specs.declared.rrule.Count.{Count}
 use Rattle.rule.specs.declared.rrule.Until.{Until}
 use Rattle.rule.specs.declared.rrule.Refusal.{Refusal}
 use Rattle.rule.specs.Raw.{raw, rawLists}
-use Rattle.charts.specs.Play.{of, at, told, Outcome.refused, Outcome.answers, play, playFrom}
+use Rattle.cases.specs.Play.{of, at, told, Outcome.refused, Outcome.answers, play, playFrom}
 
 -- MONTHLY;BYMONTHDAY=-1 from 2024-02-01: 29 February, 31 March
 month-end :

@@ -12,7 +12,7 @@ use Rattle.rule.specs.declared.rrule.Count.{Count}
 use Rattle.rule.specs.declared.rrule.Until.{Until}
 use Rattle.rule.specs.declared.rrule.Refusal.{Refusal}
 use Rattle.rule.specs.Raw.{raw, rawLists}
-use Rattle.charts.specs.Play.{of, at, told, Outcome.refused, Outcome.answers, play, playFrom}
+use Rattle.cases.specs.Play.{of, at, told, Outcome.refused, Outcome.answers, play, playFrom}
 
 -- frequency 7: freq=7
 refused-0 :

@@ -13,7 +13,7 @@ use Rattle.rule.specs.declared.rrule.Count.{Count}
 use Rattle.rule.specs.declared.rrule.Until.{Until}
 use Rattle.rule.specs.declared.rrule.Refusal.{Refusal}
 use Rattle.rule.specs.Raw.{raw, rawLists}
-use Rattle.charts.specs.Play.{of, at, told, Outcome.refused, Outcome.answers, play, playFrom}
+use Rattle.cases.specs.Play.{of, at, told, Outcome.refused, Outcome.answers, play, playFrom}
 
 -- DAILY;COUNT=3 from 2024-02-28 05:00, four slots, m = 9
 chart-1 :

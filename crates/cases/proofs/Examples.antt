@@ -12,7 +12,7 @@ use Rattle.machine.specs.Run.{atCandidate, counted, moveOn}
 use Rattle.rule.specs.declared.rrule.Count.{Count}
 use Rattle.rule.specs.declared.rrule.Until.{Until}
 use Rattle.rule.specs.Raw.{raw, rawLists}
-use Rattle.charts.specs.Play.{of, at, told, Outcome.answers, play, playFrom}
+use Rattle.cases.specs.Play.{of, at, told, Outcome.answers, play, playFrom}
 
 -- YEARLY;BYDAY=20MO from 1997-05-19: 19 May, 18 May, 17 May
 example-1 :
