@@ -5,3 +5,4 @@ pub mod NthLaws
 pub mod OneAnswer
 pub mod Rows
 pub mod Slots
+pub mod Stretches

@@ -1,14 +1,36 @@
 -- Day sets: the passing days of a stretch of a year's tables, in order.
 -- Assumes nothing.
 use Prim.Native.Nat.{ℕ, _-_, min}
-use mathlib.Core.Bool.{Bool}
+use mathlib.Core.Bool.{Bool, true, false, _&&_, _||_}
 use mathlib.Core.List.{List}
 use Rattle.times.specs.Blocks.{passing}
 use Rattle.weeks.specs.declared.yearinfo.Year.{Year}
 use Rattle.days.specs.declared.filters.Asked.{Asked}
-use Rattle.days.specs.Filters.{DayLists, placePasses}
+use lib.ListN.{getD}
+use Rattle.days.specs.Filters.{DayLists, weekdayAt, placePasses}
 
 -- the passing places from `from` up to `to`, or up to the tables' end
 unfoldable pub daySet : Asked → Year → DayLists → (weeks nths : List Bool) → (from to : ℕ) → List ℕ
 unfolding passing placePasses
 daySet a y l weeks nths from to = passing (placePasses a y l weeks nths) (min to 373 - from) from
+
+-- Where a date is asked for, or both a week and a weekday, no single mask decides.
+abbrev pub isDated : Asked → Bool
+isDated a = a .month || (a .monthday || (a .yearday || (a .weekno && a .day)))
+
+-- BYDAY has an entry with n = 0.
+abbrev pub hasEvery : List Bool → Bool
+hasEvery s = getD s 371 false || (getD s 372 false || (getD s 373 false || (getD s 374 false || (getD s 375 false || (getD s 376 false || getD s 377 false)))))
+
+-- all places, those that a mask marks, and those that pass BYDAY, from `from` up to `end`
+unfoldable pub allDays : (from end : ℕ) → List ℕ
+unfolding passing
+allDays from end = passing (λ _. true) (end - from) from
+
+unfoldable pub markedDays : (marks : List Bool) → (from end : ℕ) → List ℕ
+unfolding passing
+markedDays marks from end = passing (λ i. getD marks i false) (end - from) from
+
+unfoldable pub weekdayDays : Bool → ℕ → (byday nths : List Bool) → (from end : ℕ) → List ℕ
+unfolding passing weekdayAt
+weekdayDays nth first byday nths from end = passing (weekdayAt nth first byday nths) (end - from) from

@@ -97,7 +97,7 @@ fn is_filtered_by_week_number(asked: bool, place: usize, weeks: &[bool; 373]) ->
 }
 
 // BYDAY is one test: some entry passes, every weekday or nth.
-fn is_filtered_by_weekday(
+pub(crate) fn is_filtered_by_weekday(
     asked: bool,
     nth: bool,
     first: u64,

@@ -1,18 +1,21 @@
 // What the day test needs of a year, and day sets.
 use crate::filters::Asked;
 use crate::filters::is_filtered;
+use crate::filters::is_filtered_by_weekday;
 use crate::monthinfo::neg_weekday_mask;
+use crate::places::days_of;
 use weeks::yearinfo::Year;
 use weeks::yearinfo::week_no_mask;
 use weeks::yearinfo::year_info;
 ghost use mathlib.Core.Path.{_≡_};
-ghost use Prim.Native.Nat.{min};
+ghost use Prim.Native.Nat.{_+_, _≤_, min};
 ghost use lib.ListN.{length};
 ghost use lib.Seq.{sets};
 ghost use Rattle.days.specs.Filters.{dayLists};
 ghost use Rattle.weeks.specs.Weeks.{weekMask};
 ghost use Rattle.days.specs.Masks.{nthMask};
-ghost use Rattle.days.specs.DaySets.{daySet};
+ghost use Rattle.calendar.specs.Calendar.{daysOf};
+ghost use Rattle.days.specs.DaySets.{daySet, isDated, hasEvery, allDays, markedDays, weekdayDays};
 ghost use Rattle.days.specs.Info.{maskWhere, infoOf};
 
 // A year and its masks, which are blank where the rule has no use for them.
@@ -64,8 +67,8 @@ fn table_end(to: usize) -> usize
     if to < 373 { to } else { 373 }
 }
 
-// The passing days of a stretch of a year's tables, as their places in order, and how many there are. The slots behind them stay.
-pub fn get_dayset<'a, 'b>(
+// The same by all the filters, day by day.
+fn filtered_days<'a, 'b>(
     asked: Asked,
     year: Year,
     from: usize,
@@ -101,4 +104,129 @@ pub fn get_dayset<'a, 'b>(
         count += 1;
     }
     count
+}
+
+// Whether a date is asked for, or both a week and a weekday: then each day goes through the filters.
+fn is_dated(asked: Asked) -> bool
+    ensures { λ r. ⌜ r ≡ isDated asked ⌝ }
+{
+    asked.month | (asked.monthday | (asked.yearday | (asked.weekno & asked.day)))
+}
+
+// Whether BYDAY has an entry for every weekday of its kind.
+fn has_every(byday: &[bool; 749]) -> bool
+    ensures { λ r. ⌜ r ≡ hasEvery (now (byday .entry)) ⌝ }
+{
+    byday[371]
+        | (byday[372] | (byday[373] | (byday[374] | (byday[375] | (byday[376] | byday[377])))))
+}
+
+// A stretch ends with the year's tables.
+fn stretch_end(long: bool, to: usize) -> usize
+    ensures { λ r. ⌜ r ≡ min to (daysOf long + 7) ⌝ }
+{
+    let tables = days_of(long) + 7;
+    if to < tables { to } else { tables }
+}
+
+// All the places of a stretch.
+fn all_days(from: usize, end: usize, days: &mut [u16; 373]) -> usize
+    requires { ⌜ end ≤ 373 ⌝ }
+    ensures count { λ r. ⌜ r ≡ length (allDays from end) ⌝ }
+    ensures places { λ r. ⌜ now (days .exit) ≡ sets (now (days .entry)) 0 (allDays from end) ⌝ }
+{
+    let mut written: usize = 0;
+    for place in from..end {
+        days[written] = place as u16;
+        written += 1;
+    }
+    written
+}
+
+// The places of a stretch that a mask marks.
+fn marked_days(marks: &[bool; 373], from: usize, end: usize, days: &mut [u16; 373]) -> usize
+    requires { ⌜ end ≤ 373 ⌝ }
+    ensures count { λ r. ⌜ r ≡ length (markedDays (now (marks .entry)) from end) ⌝ }
+    ensures places { λ r. ⌜ now (days .exit) ≡ sets (now (days .entry)) 0 (markedDays (now (marks .entry)) from end) ⌝ }
+{
+    let mut marked: usize = 0;
+    for place in from..end {
+        if !marks[place] {
+            continue;
+        }
+        days[marked] = place as u16;
+        marked += 1;
+    }
+    marked
+}
+
+// The places of a stretch that pass BYDAY.
+fn weekday_days<'a, 'b>(
+    nth: bool,
+    first: u64,
+    from: usize,
+    end: usize,
+    byday: &'a [bool; 749],
+    nths: &'b [bool; 373],
+    days: &mut [u16; 373],
+) -> usize
+    requires { ⌜ end ≤ 373 ⌝ }
+    ensures count { λ r. ⌜ r ≡ length (weekdayDays nth first (now (byday .entry)) (now (nths .entry)) from end) ⌝ }
+    ensures places { λ r. ⌜ now (days .exit) ≡ sets (now (days .entry)) 0 (weekdayDays nth first (now (byday .entry)) (now (nths .entry)) from end) ⌝ }
+{
+    let mut passed: usize = 0;
+    for place in from..end {
+        if is_filtered_by_weekday(true, nth, first, place, byday, nths) {
+            continue;
+        }
+        days[passed] = place as u16;
+        passed += 1;
+    }
+    passed
+}
+
+// The passing days of a stretch of a year's tables, as their places in order, and how many there are. The slots behind them stay.
+// Where one mask or the weekday decides, the other filters are not asked.
+pub fn get_dayset<'a, 'b>(
+    asked: Asked,
+    year: Year,
+    from: usize,
+    to: usize,
+    bymonth: &'a [bool; 12],
+    bymonthday: &'a [bool; 62],
+    byyearday: &'a [bool; 732],
+    byday: &'a [bool; 749],
+    weeks: &'b [bool; 373],
+    nths: &'b [bool; 373],
+    days: &mut [u16; 373],
+) -> usize
+    ensures count { λ r. ⌜ r ≡ length (daySet asked year (dayLists (now (bymonth .entry)) (now (bymonthday .entry)) (now (byyearday .entry)) (now (byday .entry))) (now (weeks .entry)) (now (nths .entry)) from to) ⌝ }
+    ensures places { λ r. ⌜ now (days .exit) ≡ sets (now (days .entry)) 0 (daySet asked year (dayLists (now (bymonth .entry)) (now (bymonthday .entry)) (now (byyearday .entry)) (now (byday .entry))) (now (weeks .entry)) (now (nths .entry)) from to) ⌝ }
+{
+    if is_dated(asked) {
+        return filtered_days(
+            asked,
+            year,
+            from,
+            to,
+            bymonth,
+            bymonthday,
+            byyearday,
+            byday,
+            weeks,
+            nths,
+            days,
+        );
+    }
+    let end = stretch_end(year.long, to);
+    if asked.weekno {
+        return marked_days(weeks, from, end, days);
+    }
+    if !asked.day {
+        return all_days(from, end, days);
+    }
+    if asked.nth & !has_every(byday) {
+        return marked_days(nths, from, end, days);
+    }
+    weekday_days(asked.nth, year.first, from, end, byday, nths, days)
 }

@@ -5,7 +5,7 @@ ghost use Prim.Native.Nat.{_+_, _-_, _<_};
 ghost use Rattle.calendar.specs.Calendar.{daysOf, weekday};
 ghost use Rattle.days.specs.Masks.{inTables, yearDayAt, yearLengthAt};
 
-fn days_of(long: bool) -> usize
+pub(crate) fn days_of(long: bool) -> usize
     ensures { λ r. ⌜ r ≡ daysOf long ⌝ }
 {
     if long { 366 } else { 365 }

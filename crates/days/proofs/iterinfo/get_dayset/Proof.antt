@@ -1,96 +1,96 @@
 -- `days::iterinfo::get_dayset` meets its contract.
 -- Assumes nothing.
-use Prim.Native.Nat.{ℕ, _+_, _-_, _≤_}
-use mathlib.Core.Path.{_≡_, refl, sym, _∙_}
+use Prim.Native.Nat.{ℕ, _+_, min}
+use mathlib.Core.Path.{_≡_, sym, ap, _∙_}
+use mathlib.Core.Bool.{not}
 use native.Mathlib.Omega.{arith}
 use borrow.Author.Tests.{not-false, not-true}
-use Rattle.days.specs.Filters.{dayLists, placePasses}
-use Rattle.days.specs.DaySets.{daySet}
-use Rattle.days.proofs.MaskLaws.{Filling, fill-begins, fill-no, fill-yes, fill-ends}
+use Rattle.rule.proofs.FillLaws.{both}
+use Rattle.days.specs.Filters.{dayLists}
+use Rattle.days.specs.DaySets.{allDays, markedDays, weekdayDays}
+use Rattle.days.proofs.Rows.{days-high}
+use Rattle.days.proofs.Stretches.{by-weeks, by-none, by-weekday, by-nths, as-set}
 use borrow.Author.Needs.{needs}
 use Rattle.days.proofs.iterinfo.get_dayset.Statement.{statement}
 use Rattle.days.proofs.iterinfo.get_dayset.Tie as tie
 
-abbrev Inv-loop : tie.InvT-loop
-Inv-loop asked year from to bymonth bymonthday byyearday byday weeks nths days₀ end count₀ place₀ days count place =
-    Filling (placePasses asked year (dayLists bymonth bymonthday byyearday byday) weeks nths) end
-    (daySet asked year (dayLists bymonth bymonthday byyearday byday) weeks nths from to) days₀ days count place
+is-dated-requires : tie.Need-is-dated-requires
+is-dated-requires c κs = search needs
 
-abbrev μ-loop : tie.MeasureT-loop
-μ-loop asked year from to bymonth bymonthday byyearday byday weeks nths days₀ end count₀ place₀ days count place = end - place
+filtered-days-requires : tie.Need-filtered-days-requires
+filtered-days-requires c κs = search needs
 
-table-end-requires : tie.Need-table-end-requires Inv-loop μ-loop
-table-end-requires c κs = search needs
+returns : tie.Need-returns
+returns c = search needs
 
-loop-holds : tie.Need-loop-holds Inv-loop μ-loop
-unfolding daySet
-loop-holds c = let a = c .before .args in
-    fill-begins (placePasses (a .asked) (a .year) (dayLists (a .bymonth .now) (a .bymonthday .now) (a .byyearday .now) (a .byday .now)) (a .weeks .now) (a .nths .now)) (c .table-end .result) (daySet (a .asked) (a .year) (dayLists (a .bymonth .now) (a .bymonthday .now) (a .byyearday .now) (a .byday .now)) (a .weeks .now) (a .nths .now) (a .from) (a .to)) (a .days .now) (a .days .now) 0 0 (a .from) (rw (c .table-end .ensures))
+stretch-end-requires : tie.Need-stretch-end-requires
+stretch-end-requires c κs = search needs
 
-is-filtered-requires : tie.Need-is-filtered-requires Inv-loop μ-loop
-is-filtered-requires c κs = search needs
+marked-days-requires : tie.Need-marked-days-requires
+marked-days-requires c κs = omega (arith, c .before .before .stretch-end .ensures, days-high (c .before .before .before .before .before .args .year .long))
 
-add-place : tie.Need-add-place Inv-loop μ-loop
-add-place c = search needs
+returns-2 : tie.Need-returns-2
+returns-2 c =
+    let a = c .before .before .before .before .before .before .args in
+    let undated = sym (c .before .before .before .before .before .is-dated .ensures) ∙ c .before .before .before .before .if1 .left in
+    as-set _ _ _ _ _
+    (by-weeks (a .asked) (a .year) (dayLists (a .bymonth .now) (a .bymonthday .now) (a .byyearday .now) (a .byday .now)) (a .weeks .now) (a .nths .now) (a .from) (a .to) undated (c .before .before .if2 .taken)
+    ∙ ap (λ (n : ℕ). markedDays (a .weeks .now) (a .from) n) (sym (c .before .before .before .stretch-end .ensures)))
+    (c .marked-days .ensures .0) (c .marked-days .ensures .1)
 
-loop-less : tie.Need-loop-less Inv-loop μ-loop
-loop-less c = search needs
+all-days-requires : tie.Need-all-days-requires
+all-days-requires c κs = omega (arith, c .before .before .before .before .stretch-end .ensures, days-high (c .before .before .before .before .before .before .before .args .year .long))
 
-loop-again : tie.Need-loop-again Inv-loop μ-loop
-loop-again c =
-    let a = c .before .before .before .before .before .args in
-    let l = c .before .before .before .loop in
-    fill-no (placePasses (a .asked) (a .year) (dayLists (a .bymonth .now) (a .bymonthday .now) (a .byyearday .now) (a .byday .now)) (a .weeks .now) (a .nths .now)) (c .before .before .before .before .table-end .result) (daySet (a .asked) (a .year) (dayLists (a .bymonth .now) (a .bymonthday .now) (a .byyearday .now) (a .byday .now)) (a .weeks .now) (a .nths .now) (a .from) (a .to)) (a .days .now) (l .days) (l .count) (l .place)
-    (c .before .before .loop-test .taken) (not-true _ (sym (c .before .is-filtered .ensures) ∙ c .if1 .taken)) (l .inv)
+returns-3 : tie.Need-returns-3
+returns-3 c =
+    let a = c .before .before .before .before .before .before .before .before .args in
+    let undated = sym (c .before .before .before .before .before .before .before .is-dated .ensures) ∙ c .before .before .before .before .before .before .if1 .left in
+    as-set _ _ _ _ _
+    (by-none (a .asked) (a .year) (dayLists (a .bymonth .now) (a .bymonthday .now) (a .byyearday .now) (a .byday .now)) (a .weeks .now) (a .nths .now) (a .from) (a .to) undated (c .before .before .before .before .if2 .left) (not-true _ (c .before .before .if3 .taken))
+    ∙ ap (λ (n : ℕ). allDays (a .from) n) (sym (c .before .before .before .before .before .stretch-end .ensures)))
+    (c .all-days .ensures .0) (c .all-days .ensures .1)
 
-cast-days : tie.Need-cast-days Inv-loop μ-loop
-cast-days c = search needs
+has-every-requires : tie.Need-has-every-requires
+has-every-requires c κs = search needs
 
-mul-days : tie.Need-mul-days Inv-loop μ-loop
-mul-days c = search needs
+marked-days-requires-2 : tie.Need-marked-days-requires-2
+marked-days-requires-2 c κs = omega (arith, c .before .before .before .before .before .before .before .stretch-end .ensures, days-high (c .before .before .before .before .before .before .before .before .before .before .args .year .long))
 
-element-write-days : tie.Need-element-write-days Inv-loop μ-loop
-element-write-days c = search needs
+returns-4 : tie.Need-returns-4
+returns-4 c =
+    let a = c .before .before .before .before .before .before .before .before .before .before .before .args in
+    let undated = sym (c .before .before .before .before .before .before .before .before .before .before .is-dated .ensures) ∙ c .before .before .before .before .before .before .before .before .before .if1 .left in
+    as-set _ _ _ _ _
+    (by-nths (a .asked) (a .year) (dayLists (a .bymonth .now) (a .bymonthday .now) (a .byyearday .now) (a .byday .now)) (a .weeks .now) (a .nths .now) (a .from) (a .to) undated (c .before .before .before .before .before .before .before .if2 .left) (not-false _ (c .before .before .before .before .before .if3 .left)) (both (a .asked .nth) (not (c .before .before .before .before .has-every .result)) (c .before .before .if4 .taken) .0) (sym (c .before .before .before .before .has-every .ensures) ∙ not-true _ (both (a .asked .nth) (not (c .before .before .before .before .has-every .result)) (c .before .before .if4 .taken) .1))
+    ∙ ap (λ (n : ℕ). markedDays (a .nths .now) (a .from) n) (sym (c .before .before .before .before .before .before .before .before .stretch-end .ensures)))
+    (c .marked-days2 .ensures .0) (c .marked-days2 .ensures .1)
 
-add-count : tie.Need-add-count Inv-loop μ-loop
-add-count c = search needs
+weekday-days-requires : tie.Need-weekday-days-requires
+weekday-days-requires c κs = omega (arith, c .before .before .before .before .before .before .before .stretch-end .ensures, days-high (c .before .before .before .before .before .before .before .before .before .before .args .year .long))
 
-add-place-2 : tie.Need-add-place-2 Inv-loop μ-loop
-add-place-2 c = search needs
-
-loop-less-2 : tie.Need-loop-less-2 Inv-loop μ-loop
-loop-less-2 c = search needs
-
-loop-again-2 : tie.Need-loop-again-2 Inv-loop μ-loop
-loop-again-2 c =
-    let a = c .before .before .before .before .before .args in
-    let l = c .before .before .before .loop in
-    fill-yes (placePasses (a .asked) (a .year) (dayLists (a .bymonth .now) (a .bymonthday .now) (a .byyearday .now) (a .byday .now)) (a .weeks .now) (a .nths .now)) (c .before .before .before .before .table-end .result) (daySet (a .asked) (a .year) (dayLists (a .bymonth .now) (a .bymonthday .now) (a .byyearday .now) (a .byday .now)) (a .weeks .now) (a .nths .now) (a .from) (a .to)) (a .days .now) (l .days) (l .count) (l .place)
-    (c .before .before .loop-test .taken) (not-false _ (sym (c .before .is-filtered .ensures) ∙ c .if1 .left)) (l .inv)
-
-returns : tie.Need-returns Inv-loop μ-loop
-returns c =
-    let a = c .before .before .before .args in
-    let l = c .before .loop in
-    fill-ends (placePasses (a .asked) (a .year) (dayLists (a .bymonth .now) (a .bymonthday .now) (a .byyearday .now) (a .byday .now)) (a .weeks .now) (a .nths .now)) (c .before .before .table-end .result) (daySet (a .asked) (a .year) (dayLists (a .bymonth .now) (a .bymonthday .now) (a .byyearday .now) (a .byday .now)) (a .weeks .now) (a .nths .now) (a .from) (a .to)) (a .days .now) (l .days) (l .count) (l .place) (c .loop-test .left) (l .inv)
+returns-5 : tie.Need-returns-5
+returns-5 c =
+    let a = c .before .before .before .before .before .before .before .before .before .before .before .args in
+    let undated = sym (c .before .before .before .before .before .before .before .before .before .before .is-dated .ensures) ∙ c .before .before .before .before .before .before .before .before .before .if1 .left in
+    as-set _ _ _ _ _
+    (by-weekday (a .asked) (a .year) (dayLists (a .bymonth .now) (a .bymonthday .now) (a .byyearday .now) (a .byday .now)) (a .weeks .now) (a .nths .now) (a .from) (a .to) undated (c .before .before .before .before .before .before .before .if2 .left) (not-false _ (c .before .before .before .before .before .if3 .left))
+    ∙ ap (λ (n : ℕ). weekdayDays (a .asked .nth) (a .year .first) (a .byday .now) (a .nths .now) (a .from) n) (sym (c .before .before .before .before .before .before .before .before .stretch-end .ensures)))
+    (c .weekday-days .ensures .0) (c .weekday-days .ensures .1)
 
 pub get-dayset-spec : {M : Type 1} → statement M
 get-dayset-spec =
     tie.close
     (tie.spec
-    Inv-loop
-    μ-loop
-    table-end-requires
-    loop-holds
-    is-filtered-requires
-    add-place
-    loop-less
-    loop-again
-    cast-days
-    mul-days
-    element-write-days
-    add-count
-    add-place-2
-    loop-less-2
-    loop-again-2
-    returns)
+    is-dated-requires
+    filtered-days-requires
+    returns
+    stretch-end-requires
+    marked-days-requires
+    returns-2
+    all-days-requires
+    returns-3
+    has-every-requires
+    marked-days-requires-2
+    returns-4
+    weekday-days-requires
+    returns-5)

@@ -1,0 +1,125 @@
+-- A day set where one mask or the weekday decides: only that test is asked, and the stretch ends with the year's tables.
+-- Assumes nothing.
+use Prim.Native.Nat.{ℕ, zero, suc, _+_, _-_, _%_, min, _≤_, _<_}
+use mathlib.Core.Path.{_≡_, refl, sym, ap, _∙_}
+use mathlib.Core.Bool.{Bool, true, false, not, _&&_, _||_}
+use mathlib.Core.List.{List, []}
+use lib.ListN.{length, getD}
+use lib.Seq.{sets}
+use native.Mathlib.Omega.{arith}
+use native.Mathlib.Decide.{decLt}
+use borrow.Author.Tests.{lt-ltb, le-ltb, not-true}
+use Rattle.calendar.specs.Calendar.{daysOf, weekday}
+use Rattle.rule.specs.Candidates.{gather, only}
+use Rattle.rule.proofs.GivenLaws.{neither}
+use Rattle.times.specs.Blocks.{passing}
+use Rattle.weeks.specs.declared.yearinfo.Year.{Year}
+use Rattle.days.specs.declared.filters.Asked.{Asked}
+use Rattle.days.specs.Masks.{inTables}
+use Rattle.days.specs.Filters.{DayLists, weekdayAt, placePasses}
+use Rattle.days.specs.DaySets.{daySet, isDated, hasEvery, allDays, markedDays, weekdayDays}
+use Rattle.days.proofs.Rows.{days-high}
+use Rattle.days.proofs.Slots.{every-slot}
+use Rattle.days.proofs.FilterLaws.{past-fails}
+
+-- two tests that agree below e, of which one passes nothing from e on
+module _ (p q : ℕ → Bool) (e : ℕ) (below : (i : ℕ) → i < e → p i ≡ q i) (past : (i : ℕ) → e ≤ i → p i ≡ false) where
+  none-past : (n i : ℕ) → e ≤ i → passing p n i ≡ []
+  unfolding passing gather
+  none-past zero i h = refl
+  none-past (suc n) i h = rw (past i h) (none-past n (i + 1) (omega arith))
+
+  pub cut : (end n i : ℕ) → n ≡ end - i → passing p n i ≡ passing q (min end e - i) i
+  unfolding passing gather
+  cut end zero i h = let z : min end e - i ≡ 0 = omega arith in rw z
+  cut end (suc n) i h = go (decLt i e) (cut end n (i + 1) (omega arith))
+    where
+      go : Dec (i < e) → passing p n (i + 1) ≡ passing q (min end e - (i + 1)) (i + 1) → passing p (suc n) i ≡ passing q (min end e - i) i
+      go (yes l) r = let s : min end e - i ≡ suc (min end e - (i + 1)) = omega arith in rw (s, below i l, r)
+      go (no l) r = let z : min end e - i ≡ 0 = omega arith in rw (z, past i (omega arith), none-past n (i + 1) (omega arith))
+
+-- without an entry for every weekday, no day passes by one
+no-every : (s : List Bool) (w : ℕ) → hasEvery s ≡ false → w < 7 → getD s (371 + w) false ≡ false
+no-every s w h k =
+    let a = neither _ _ h in
+    let b = neither _ _ (a .1) in
+    let c = neither _ _ (b .1) in
+    let d = neither _ _ (c .1) in
+    let e = neither _ _ (d .1) in
+    let f = neither _ _ (e .1) in
+    go w k (a .0) (b .0) (c .0) (d .0) (e .0) (f .0) (f .1)
+  where
+    go : (w : ℕ) → w < 7 → getD s 371 false ≡ false → getD s 372 false ≡ false → getD s 373 false ≡ false → getD s 374 false ≡ false
+        → getD s 375 false ≡ false → getD s 376 false ≡ false → getD s 377 false ≡ false → getD s (371 + w) false ≡ false
+    go zero k a b c d e f g = a
+    go (suc zero) k a b c d e f g = b
+    go (suc (suc zero)) k a b c d e f g = c
+    go (suc (suc (suc zero))) k a b c d e f g = d
+    go (suc (suc (suc (suc zero)))) k a b c d e f g = e
+    go (suc (suc (suc (suc (suc zero))))) k a b c d e f g = f
+    go (suc (suc (suc (suc (suc (suc zero)))))) k a b c d e f g = g
+    go (suc (suc (suc (suc (suc (suc (suc w))))))) k a b c d e f g = absurd (omega arith)
+
+module _ (a : Asked) (y : Year) (l : DayLists) (weeks nths : List Bool) (from to : ℕ) where
+  -- one test decides in the tables
+  by-test : (q : ℕ → Bool) → ((i : ℕ) → inTables (y .long) i ≡ true → placePasses a y l weeks nths i ≡ q i)
+      → daySet a y l weeks nths from to ≡ passing q (min to (daysOf (y .long) + 7) - from) from
+  unfolding daySet
+  by-test q f =
+      let high = days-high (y .long) in
+      let e : ℕ = daysOf (y .long) + 7 in
+      let m : min (min to 373) e - from ≡ min to e - from = omega arith in
+      cut (placePasses a y l weeks nths) q e
+      (λ i h. f i (lt-ltb i e h))
+      (λ i h. not-true _ (sym (past-fails a y l weeks nths i (le-ltb i e h))))
+      (min to 373) (min to 373 - from) from refl
+      ∙ ap (λ (n : ℕ). passing q n from) m
+
+  -- no date is asked for, and not both a week and a weekday
+  record Undated : Type 0 where
+    pub month : a .month ≡ false
+    pub monthday : a .monthday ≡ false
+    pub yearday : a .yearday ≡ false
+    pub week-or-day : (a .weekno && a .day) ≡ false
+
+  undated : isDated a ≡ false → Undated
+  undated h =
+      let x = neither (a .month) (a .monthday || (a .yearday || (a .weekno && a .day))) h in
+      let v = neither (a .monthday) (a .yearday || (a .weekno && a .day)) (x .1) in
+      let w = neither (a .yearday) (a .weekno && a .day) (v .1) in
+      record { month = x .0; monthday = v .0; yearday = w .0; week-or-day = w .1 }
+
+  and-true : (b : Bool) → (b && true) ≡ b
+  and-true true = refl
+  and-true false = refl
+
+  pub by-weeks : isDated a ≡ false → a .weekno ≡ true → daySet a y l weeks nths from to ≡ markedDays weeks from (min to (daysOf (y .long) + 7))
+  unfolding markedDays placePasses
+  by-weeks h k =
+      let u = undated h in
+      let d : a .day ≡ false = rw k at (u .week-or-day) in
+      by-test (λ i. getD weeks i false) (λ i t. rw (t, u .month, u .monthday, u .yearday, k, d) (and-true (getD weeks i false)))
+
+  pub by-none : isDated a ≡ false → a .weekno ≡ false → a .day ≡ false → daySet a y l weeks nths from to ≡ allDays from (min to (daysOf (y .long) + 7))
+  unfolding allDays placePasses
+  by-none h k d =
+      let u = undated h in
+      by-test (λ _. true) (λ i t. rw (t, u .month, u .monthday, u .yearday, k, d))
+
+  pub by-weekday : isDated a ≡ false → a .weekno ≡ false → a .day ≡ true
+      → daySet a y l weeks nths from to ≡ weekdayDays (a .nth) (y .first) (l .byday) nths from (min to (daysOf (y .long) + 7))
+  unfolding weekdayDays placePasses
+  by-weekday h k d =
+      let u = undated h in
+      by-test (weekdayAt (a .nth) (y .first) (l .byday) nths) (λ i t. rw (t, u .month, u .monthday, u .yearday, k, d))
+
+  pub by-nths : isDated a ≡ false → a .weekno ≡ false → a .day ≡ true → a .nth ≡ true → hasEvery (l .byday) ≡ false
+      → daySet a y l weeks nths from to ≡ markedDays nths from (min to (daysOf (y .long) + 7))
+  unfolding markedDays placePasses weekdayAt
+  by-nths h k d n e =
+      let u = undated h in
+      by-test (λ i. getD nths i false) (λ i t. rw (t, u .month, u .monthday, u .yearday, k, d, n, every-slot (l .byday) ((y .first + i) % 7) (omega arith), no-every (l .byday) ((y .first + i) % 7) e (omega arith)))
+
+-- what is written of one list is written of the same list by another name
+pub as-set : (xs ys b b₀ : List ℕ) (n : ℕ) → xs ≡ ys → n ≡ length ys → b ≡ sets b₀ 0 ys → (n ≡ length xs) × (b ≡ sets b₀ 0 xs)
+as-set xs ys b b₀ n e f g = rw e (f, g)
