@@ -2,11 +2,11 @@
 -- Assumes nothing.
 use Prim.Native.Nat.{ℕ, zero, suc, _+_, _-_, _*_, _≤_, _<_}
 use mathlib.Core.Path.{_≡_, refl, sym, ap, _∙_, subst}
-use mathlib.Core.Bool.{Bool, true, false}
+use mathlib.Core.Bool.{Bool, true, false, _||_}
 use mathlib.Core.List.{List, [], _∷_}
 use mathlib.Core.Logic.{_⊎_, inl, inr}
 use lib.ListN.{length, set, drop, length-set}
-use lib.Dec.{eqb}
+use lib.Dec.{eqb, ltb}
 use native.Mathlib.Omega.{arith}
 use native.Mathlib.Decide.{decLt, ℕ-discrete}
 use borrow.Author.Tests.{eqb-true, eqb-false, eq-eqb, ne-eqb}
@@ -26,6 +26,7 @@ use Rattle.walks.specs.declared.rrule_iter.Walked.{Walked}
 use Rattle.walks.specs.declared.rrule_iter.Bounds.{Bounds}
 use Rattle.walks.specs.declared.rrule_iter.Frame.{Frame}
 use Rattle.walks.specs.Walks.{givenBy, nowOf, walkedBy, tabled, walkFrom, daysWalk, placesWalk, Ready}
+use Rattle.rule.proofs.GivenLaws.{neither}
 use Rattle.walks.specs.Passing.{passedDays}
 use Rattle.walks.proofs.Passing.{passed-holds, passed-walks}
 use Rattle.listing.specs.Opening.{secondKept}
@@ -258,10 +259,10 @@ ready-passed full f b h days buffer r e y =
 
 -- and where days were passed, the walk is the same
 pub by-passed : (positioned : Bool) (f : Frame) (b : Bounds) (h : Held) (kept : ℕ) (days lists places buffer : List ℕ) (r : Held)
-    → Sound positioned f kept lists → positioned ≡ false → r ≡ passedDays (eqb (h .handed) (length buffer)) f b h days
+    → Sound positioned f kept lists → positioned ≡ false → r ≡ passedDays (ltb 0 (h .number) || eqb (h .handed) (length buffer)) f b h days
     → daysWalk f b r days lists buffer
     ≡ compute.walk (givenBy b) (tabled (secondKept positioned f days lists places) (h .place) (kept - h .place)) (nowOf State.Running h buffer)
 by-passed positioned f b h kept days lists places buffer r z p e =
     ap (λ (x : Held). daysWalk f b x days lists buffer) e
-    ∙ sym (passed-walks (eqb (h .handed) (length buffer)) f b h days lists buffer (λ q. eqb-false _ _ q) (z .time-high))
+    ∙ sym (passed-walks (ltb 0 (h .number) || eqb (h .handed) (length buffer)) f b h days lists buffer (λ q. eqb-false _ _ (neither (ltb 0 (h .number)) (eqb (h .handed) (length buffer)) q .1)) (z .time-high))
     ∙ by-days positioned f b h kept days lists places buffer p (z .kept-is p)

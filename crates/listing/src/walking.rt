@@ -41,6 +41,8 @@ pub(crate) fn walk_period(
             buffer,
         );
     }
-    let passed = pass_days(held.handed == buffer.len(), frame, bounds, held, days);
+    // nothing is before the start where something was handed out already
+    let none = (0 < held.number) | (held.handed == buffer.len());
+    let passed = pass_days(none, frame, bounds, held, days);
     walk_days(frame, bounds, passed, days, lists, buffer)
 }
