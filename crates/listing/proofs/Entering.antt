@@ -23,7 +23,7 @@ use Rattle.rule.specs.Periods.{inRange}
 use Rattle.rule.specs.Records.{yielded}
 use Rattle.rule.specs.Run.{periods, runOf}
 use Rattle.walks.specs.Walks.{nowOf}
-use Rattle.listing.specs.Settling.{answerOf, heldOf}
+use Rattle.settling.specs.Settling.{answerOf, heldOf}
 
 module _ (r : Rule) (c : Cursor) (buffer : List ℕ) (m : ℕ) (a : Answer) where
   x : Call ℕ

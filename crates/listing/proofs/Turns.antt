@@ -59,8 +59,9 @@ use Rattle.listing.specs.declared.plan.Plan.{Plan}
 use Rattle.listing.specs.Plans.{untilSecond, boundsOf, planOf}
 use Rattle.listing.specs.Opening.{isInYear, frameOf, keptCount, chosenOver, secondKept}
 use Rattle.listing.specs.Opened.{spanOf, daySetOf, frameIn, isPositioned, keptIn, daysOver, placesOver, Opened, OpenedIs}
-use Rattle.listing.specs.declared.rrule_iter.Settled.{Settled}
-use Rattle.listing.specs.Settling.{Sound, answerOf, heldOf, movedTo, settled}
+use Rattle.settling.specs.declared.rrule_iter.Settled.{Settled}
+use Rattle.settling.specs.Settling.{answerOf, heldOf, movedTo, settled}
+use Rattle.listing.specs.Sound.{Sound}
 use Rattle.listing.proofs.Yielded.{Good, good}
 use Rattle.listing.proofs.Spans.{Covers, covers-is, info-year, span-from-low, span-from-high, span-in-year, own-year}
 use Rattle.listing.proofs.WalkLaws.{leftAt, Stays, walk-stays, drop-tabled, settle-stops, Onward, settle-moves, then-moves, then-no-tick, then-range}

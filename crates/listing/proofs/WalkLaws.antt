@@ -30,8 +30,9 @@ use Rattle.rule.proofs.GivenLaws.{neither}
 use Rattle.walks.specs.Passing.{passedDays}
 use Rattle.walks.proofs.Passing.{passed-holds, passed-walks}
 use Rattle.listing.specs.Opening.{secondKept}
-use Rattle.listing.specs.declared.rrule_iter.Settled.{Settled}
-use Rattle.listing.specs.Settling.{Sound, answerOf, movedTo, settledThrough, settled}
+use Rattle.settling.specs.declared.rrule_iter.Settled.{Settled}
+use Rattle.settling.specs.Settling.{answerOf, movedTo, settledThrough, settled}
+use Rattle.listing.specs.Sound.{Sound}
 
 -- where a walk leaves off
 abbrev pub leftAt : {A : Type 0} → compute.Walked A → Now A
@@ -210,33 +211,6 @@ drop-tabled f (suc n) i (suc p) h =
     let a : i + 1 + p ≡ i + suc p = omega arith in
     let b : suc n - suc p ≡ n - p = omega arith in
     drop-tabled f n (i + 1) p (omega arith) ∙ rw (a, b)
-
--- ---- what is settled, case by case
-module _ (w : Walked) (room m : ℕ) (a : Answer) where
-  pub settled-full : w .why ≡ Why.Full → a ≡ answerOf Stop.More State.Running (w .held) → Settled.Stops a ≡ settled w room m
-  unfolding settled
-  settled-full e f = rw (e, settled) (ap Settled.Stops f)
-
-  pub settled-until : w .why ≡ Why.Until → a ≡ answerOf Stop.Ended (State.Ended Cause.Until) (w .held) → Settled.Stops a ≡ settled w room m
-  unfolding settled
-  settled-until e f = rw (e, settled) (ap Settled.Stops f)
-
-  pub settled-count : w .why ≡ Why.Count → a ≡ answerOf Stop.Ended (State.Ended Cause.Count) (w .held) → Settled.Stops a ≡ settled w room m
-  unfolding settled
-  settled-count e f = rw (e, settled) (ap Settled.Stops f)
-
-  pub settled-more : w .why ≡ Why.Through → w .held .handed ≡ room → a ≡ answerOf Stop.More State.Running (w .held) → Settled.Stops a ≡ settled w room m
-  unfolding settled
-  settled-more e h f = rw (e, eq-eqb _ _ h, settled) (ap Settled.Stops f)
-
-  pub settled-limited : w .why ≡ Why.Through → (w .held .handed ≡ room → ⊥) → w .held .moves ≡ m → a ≡ answerOf Stop.Limited State.Running (w .held)
-      → Settled.Stops a ≡ settled w room m
-  unfolding settled
-  settled-limited e h l f = rw (e, ne-eqb _ _ h, eq-eqb _ _ l, settled) (ap Settled.Stops f)
-
-pub settled-moves : (w : Walked) (room m : ℕ) → w .why ≡ Why.Through → (w .held .handed ≡ room → ⊥) → (w .held .moves ≡ m → ⊥) → Settled.Moves ≡ settled w room m
-unfolding settled
-settled-moves w room m e h l = rw (e, ne-eqb _ _ h, ne-eqb _ _ l, settled)
 
 -- ---- the walk over a period is that over its places, or that over its days and times
 module _ (positioned : Bool) (f : Frame) (b : Bounds) (h : Held) (kept : ℕ) (days lists places buffer : List ℕ) where

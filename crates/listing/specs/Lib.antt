@@ -3,4 +3,4 @@ pub mod Opened
 pub mod Opening
 pub mod Plans
 pub mod Poised
-pub mod Settling
+pub mod Sound

@@ -22,10 +22,13 @@ use periods::counter_date::Reached;
 use periods::counter_date::counter_at;
 use periods::counter_date::days_of;
 use rule::rrule::Rule;
+use settling::rrule_iter::Settled;
+use settling::rrule_iter::answer;
+use settling::rrule_iter::ended;
+use settling::rrule_iter::held_at;
+use settling::rrule_iter::moved_to;
+use settling::rrule_iter::settle;
 use validator::records::is_record;
-use walks::rrule_iter::Held;
-use walks::rrule_iter::Walked;
-use walks::rrule_iter::Why;
 ghost use mathlib.Core.Path.{_≡_};
 ghost use mathlib.Core.Bool.{true};
 ghost use Prim.Native.Nat.{_<_};
@@ -38,84 +41,7 @@ ghost use Rattle.rule.specs.Run.{periods, runOf};
 ghost use Rattle.periods.specs.Counters.{counterAt};
 ghost use Rattle.walks.specs.Walks.{nowOf};
 ghost use Rattle.listing.specs.Plans.{planOf};
-ghost use Rattle.listing.specs.Settling.{answerOf, heldOf, movedTo, settled};
-
-// What becomes of a call after a walk: it stops with its answer, or moves on.
-pub(crate) enum Settled {
-    Stops(Answer),
-    Moves,
-}
-
-fn answer(stop: Stop, state: State, held: Held) -> Answer
-    ensures { λ r. ⌜ r ≡ answerOf stop state held ⌝ }
-{
-    let cursor = Cursor {
-        state,
-        k: held.k,
-        place: held.place,
-        number: held.number,
-    };
-    Answer {
-        stop,
-        cursor,
-        moves: held.moves,
-        handed: held.handed,
-    }
-}
-
-fn ended(cause: Cause, held: Held) -> Answer
-    ensures { λ r. ⌜ r ≡ answerOf Stop.Ended (State.Ended cause) held ⌝ }
-{
-    let state = State::Ended(cause);
-    answer(Stop::Ended, state, held)
-}
-
-// None remains: with the buffer full, stop with More; with m moves made, with Limited.
-fn settle(walked: Walked, room: usize, m: u32) -> Settled
-    ensures { λ r. ⌜ r ≡ settled walked room m ⌝ }
-{
-    let held = walked.held;
-    let why = walked.why;
-    match why {
-        Why::Full => return Settled::Stops(answer(Stop::More, State::Running, held)),
-        Why::Until => return Settled::Stops(ended(Cause::Until, held)),
-        Why::Count => return Settled::Stops(ended(Cause::Count, held)),
-        Why::Through => {}
-    }
-    if held.handed == room {
-        return Settled::Stops(answer(Stop::More, State::Running, held));
-    }
-    if held.moves == m {
-        return Settled::Stops(answer(Stop::Limited, State::Running, held));
-    }
-    Settled::Moves
-}
-
-fn held_at(cursor: Cursor) -> Held
-    ensures { λ r. ⌜ r ≡ heldOf cursor ⌝ }
-{
-    Held {
-        k: cursor.k,
-        place: cursor.place,
-        number: cursor.number,
-        moves: 0,
-        handed: 0,
-    }
-}
-
-// A move sets the place to zero, and is counted.
-fn moved_to(k: u64, held: Held) -> Held
-    requires { ⌜ held .moves < 4294967295 ⌝ }
-    ensures { λ r. ⌜ r ≡ movedTo k held ⌝ }
-{
-    Held {
-        k,
-        place: 0,
-        number: held.number,
-        moves: held.moves + 1,
-        handed: held.handed,
-    }
-}
+ghost use Rattle.settling.specs.Settling.{heldOf};
 
 // The run of a good record from a running cursor that is well formed.
 fn run_on(

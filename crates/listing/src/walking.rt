@@ -12,7 +12,7 @@ ghost use Rattle.machine.specs.declared.State.{State};
 ghost use Rattle.machine.specs.Compute.{walk};
 ghost use Rattle.walks.specs.Walks.{Ready, givenBy, nowOf, walkedBy, tabled};
 ghost use Rattle.listing.specs.Opening.{secondKept};
-ghost use Rattle.listing.specs.Settling.{Sound};
+ghost use Rattle.listing.specs.Sound.{Sound};
 
 // The walk over the kept candidates from the place on: over their places, or over days and times, whole days before the start at one go.
 pub(crate) fn walk_period(

@@ -6,7 +6,7 @@ use borrow.Author.Tests.{not-true, not-false}
 use Rattle.machine.specs.declared.State.{State}
 use Rattle.machine.specs.declared.Stop.{Stop}
 use Rattle.walks.specs.declared.rrule_iter.Held.{Held}
-use Rattle.listing.specs.Settling.{answerOf}
+use Rattle.settling.specs.Settling.{answerOf}
 use Rattle.rule.specs.Periods.{inRange}
 use Rattle.rule.specs.Records.{yielded}
 use Rattle.periods.specs.Counters.{reachedAt}

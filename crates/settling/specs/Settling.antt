@@ -1,8 +1,6 @@
--- What a walk asks of a period that is opened, and what becomes of a call after it.
+-- What becomes of a call after the walk over a period.
 -- Assumes nothing.
-use Prim.Native.Nat.{ℕ, _+_, _*_, _≤_, _<_}
-use mathlib.Core.Path.{_≡_}
-use mathlib.Core.List.{List}
+use Prim.Native.Nat.{ℕ, _+_}
 use mathlib.Core.Bool.{Bool, true, false}
 use lib.Dec.{eqb}
 use Rattle.machine.specs.declared.Cause.{Cause}
@@ -10,20 +8,10 @@ use Rattle.machine.specs.declared.State.{State}
 use Rattle.machine.specs.declared.Stop.{Stop}
 use Rattle.machine.specs.declared.Cursor.{Cursor}
 use Rattle.machine.specs.declared.Answer.{Answer}
-use Rattle.times.specs.TimeSets.{timeAt}
-use Rattle.walks.specs.declared.rrule_iter.Frame.{Frame}
-use Rattle.walks.specs.Walks.{Framed}
 use Rattle.walks.specs.declared.rrule_iter.Why.{Why}
 use Rattle.walks.specs.declared.rrule_iter.Held.{Held}
 use Rattle.walks.specs.declared.rrule_iter.Walked.{Walked}
-use Rattle.listing.specs.declared.rrule_iter.Settled.{Settled}
-
--- what a walk asks of a frame: its numbers are small, its times lie in a day, and as many are kept as it says
-pub record Sound (positioned : Bool) (f : Frame) (kept : ℕ) (lists : List ℕ) : Type 0 where
-  pub framed : Framed f
-  pub kept-is : positioned ≡ false → kept ≡ f .days * f .times
-  pub kept-high : positioned ≡ true → kept ≤ 732
-  pub time-high : (t : ℕ) → t < f .times → timeAt (f .freq) (f .begins) (f .counts) lists t < 86400
+use Rattle.settling.specs.declared.rrule_iter.Settled.{Settled}
 
 -- what a call holds as it begins; the answer that it gives of what it holds; and what it holds after a move
 abbrev pub heldOf : Cursor → Held

@@ -1,9 +1,9 @@
--- `listing::rrule_iter::moved_to` meets its contract.
+-- `settling::rrule_iter::moved_to` meets its contract.
 -- Assumes nothing.
 use mathlib.Core.Path.{refl}
 use borrow.Author.Needs.{needs}
-use Rattle.listing.proofs.rrule_iter.moved_to.Statement.{statement}
-use Rattle.listing.proofs.rrule_iter.moved_to.Tie as tie
+use Rattle.settling.proofs.rrule_iter.moved_to.Statement.{statement}
+use Rattle.settling.proofs.rrule_iter.moved_to.Tie as tie
 
 add-t3 : tie.Need-add-t3
 add-t3 c = search needs

@@ -1,9 +1,9 @@
--- `listing::rrule_iter::settle` meets its contract.
+-- `settling::rrule_iter::settle` meets its contract.
 -- Assumes nothing.
-use Rattle.listing.proofs.WalkLaws.{settled-full, settled-until, settled-count, settled-more, settled-limited, settled-moves}
+use Rattle.settling.proofs.SettledLaws.{settled-full, settled-until, settled-count, settled-more, settled-limited, settled-moves}
 use borrow.Author.Needs.{needs}
-use Rattle.listing.proofs.rrule_iter.settle.Statement.{statement}
-use Rattle.listing.proofs.rrule_iter.settle.Tie as tie
+use Rattle.settling.proofs.rrule_iter.settle.Statement.{statement}
+use Rattle.settling.proofs.rrule_iter.settle.Tie as tie
 
 enum-told : tie.Need-enum-told
 enum-told c = search needs
