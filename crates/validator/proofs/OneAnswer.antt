@@ -3,11 +3,6 @@
 use Rattle.calendar.proofs.Determines.{Determines, one-answer}
 use Rattle.validator.proofs.validate_rrule.check.Kinds as check-kinds
 use Rattle.validator.proofs.validate_rrule.check.Reads as check
-use Rattle.validator.proofs.records.is_record.Kinds as is-record-kinds
-use Rattle.validator.proofs.records.is_record.Reads as is-record
 
 pub check-has-one : Determines 10 check-kinds.ps check-kinds.r check.Post
 check-has-one κs a x y e f = one-answer
-
-pub is-record-has-one : Determines 0 is-record-kinds.ps is-record-kinds.r is-record.Post
-is-record-has-one κs a x y e f = one-answer

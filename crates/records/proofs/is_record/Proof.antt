@@ -1,10 +1,10 @@
--- `validator::records::is_record` meets its contract.
+-- `records::is_record` meets its contract.
 -- Assumes nothing.
 use Rattle.rule.specs.Records.{Sized}
 use Rattle.rule.proofs.RecordsComputed.{record-by-parts}
 use borrow.Author.Needs.{needs}
-use Rattle.validator.proofs.records.is_record.Statement.{statement}
-use Rattle.validator.proofs.records.is_record.Tie as tie
+use Rattle.records.proofs.is_record.Statement.{statement}
+use Rattle.records.proofs.is_record.Tie as tie
 
 frequency-number-requires : tie.Need-frequency-number-requires
 frequency-number-requires c κs = search needs

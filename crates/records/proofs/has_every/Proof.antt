@@ -1,9 +1,9 @@
--- `validator::records::has_every` meets its contract.
+-- `records::has_every` meets its contract.
 -- Assumes nothing.
 use Rattle.rule.specs.Records.{hasEvery}
 use borrow.Author.Needs.{needs}
-use Rattle.validator.proofs.records.has_every.Statement.{statement}
-use Rattle.validator.proofs.records.has_every.Tie as tie
+use Rattle.records.proofs.has_every.Statement.{statement}
+use Rattle.records.proofs.has_every.Tie as tie
 
 is-empty-part-requires : tie.Need-is-empty-part-requires
 is-empty-part-requires c κs = search needs

@@ -1,12 +1,12 @@
--- `validator::records::until_in` meets its contract.
+-- `records::until_in` meets its contract.
 -- Assumes nothing.
 use mathlib.Core.Path.{sym, ap}
 use mathlib.Core.Bool.{not}
 use Rattle.rule.specs.declared.rrule.Until.{Until}
 use Rattle.rule.specs.Refusals.{untilOut}
 use borrow.Author.Needs.{needs}
-use Rattle.validator.proofs.records.until_in.Statement.{statement}
-use Rattle.validator.proofs.records.until_in.Tie as tie
+use Rattle.records.proofs.until_in.Statement.{statement}
+use Rattle.records.proofs.until_in.Tie as tie
 
 enum-told : tie.Need-enum-told
 enum-told c = search needs

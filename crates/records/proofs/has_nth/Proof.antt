@@ -1,9 +1,9 @@
--- `validator::records::has_nth` meets its contract.
+-- `records::has_nth` meets its contract.
 -- Assumes nothing.
 use Rattle.rule.specs.Records.{hasNth}
 use borrow.Author.Needs.{needs}
-use Rattle.validator.proofs.records.has_nth.Statement.{statement}
-use Rattle.validator.proofs.records.has_nth.Tie as tie
+use Rattle.records.proofs.has_nth.Statement.{statement}
+use Rattle.records.proofs.has_nth.Tie as tie
 
 is-empty-part-requires : tie.Need-is-empty-part-requires
 is-empty-part-requires c κs = search needs
