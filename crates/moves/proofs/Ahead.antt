@@ -1,8 +1,8 @@
 -- Counters that are so many periods ahead of one.
 -- Assumes nothing.
-use Prim.Native.Nat.{ℕ, _+_, _*_, _/_, _%_, _≤_, _<_}
+use Prim.Native.Nat.{ℕ, _+_, _*_, _/_, _%_, _<_}
 use mathlib.Core.Path.{_≡_, refl, sym, ap, _∙_}
-use native.Mathlib.Nat.{add-mul, mul-le-mul, div-le-self, div-add-mod', mod-lt, mod-eq-of-lt, div-eq-of-lt, mul-add-div-right, mul-add-mod-self-right}
+use native.Mathlib.Nat.{add-mul, div-add-mod', mod-lt, mod-eq-of-lt, div-eq-of-lt, mul-add-div-right, mul-add-mod-self-right}
 use native.Mathlib.Omega.{arith}
 use Rattle.periods.specs.declared.counter_date.Counter.{Counter}
 use Rattle.moves.specs.Increments.{ahead}
@@ -20,7 +20,7 @@ day-is perday number tick sum h e =
     let b : tick / perday ≡ 0 = div-eq-of-lt h in
     (let d : number ≡ (number * perday + tick) / perday = omega arith in d) ∙ ap (λ (x : ℕ). x / perday) e
 
-tick-is : (perday number tick sum : ℕ) → tick < perday → number * perday + tick ≡ sum → tick ≡ sum % perday
+pub tick-is : (perday number tick sum : ℕ) → tick < perday → number * perday + tick ≡ sum → tick ≡ sum % perday
 tick-is perday number tick sum h e = sym (mul-add-mod-self-right number perday tick ∙ mod-eq-of-lt h) ∙ ap (λ (x : ℕ). x % perday) e
 
 -- the counters of a rule whose days have so many periods, each a step apart
@@ -59,15 +59,25 @@ module _ (perday step : ℕ) where
         let e : (m + n) * step ≡ m * step + n * step = add-mul m n step in
         ahead-is c (ahead perday step d n) (m + n) (omega arith) (ahead-tick d n) (omega arith)
 
+    -- the tick of the next period is a hop further, whatever whole days the step has
+    pub tick-on : (c : Counter) (n days hop : ℕ) → step ≡ days * perday + hop
+        → (ahead perday step c n .tick + hop) % perday ≡ ahead perday step c (n + 1) .tick
+    unfolding ahead
+    tick-on c n days hop e =
+        let d : Counter = ahead perday step c n in
+        let s : (d .number + days) * perday + (d .tick + hop) ≡ sumAt d 1 = omega (arith, add-mul (d .number) days perday) in
+        sym (mul-add-mod-self-right (d .number + days) perday (d .tick + hop))
+        ∙ ap (λ (x : ℕ). x % perday) s
+        ∙ ap (λ (x : Counter). x .tick) (ahead-ahead c n 1)
+
+    -- the days that n periods lead on, counted at once
+    pub ahead-at : (c d : Counter) (n : ℕ) → d .k ≡ c .k + n → d .number ≡ c .number + (c .tick + n * step) / perday
+        → d .tick ≡ ahead perday step c n .tick → d ≡ ahead perday step c n
+    unfolding ahead
+    ahead-at c d n a b e =
+        let s : c .number * perday + (c .tick + n * step) ≡ sumAt c n = omega arith in
+        same-counter a (b ∙ sym (mul-add-div-right some (c .number) (c .tick + n * step)) ∙ ap (λ (x : ℕ). x / perday) s) e
+
   pub ahead-k : (c : Counter) (n : ℕ) → ahead perday step c n .k ≡ c .k + n
   unfolding ahead
   ahead-k c n = refl
-
-  -- as far as a cycle of the day leads, nothing wraps
-  pub ahead-fits : (c : Counter) (n : ℕ) → perday ≤ 86400 → step ≤ 65536 * 86400 → c .number ≤ 3652059 → c .tick < perday → n ≤ perday
-      → ahead perday step c n .number ≤ 1152921504606846976
-  unfolding ahead
-  ahead-fits c n p s d t h =
-      let a : c .number * perday ≤ 3652059 * 86400 = mul-le-mul d p in
-      let b : n * step ≤ 86400 * (65536 * 86400) = mul-le-mul (let q : n ≤ 86400 = omega arith in q) s in
-      omega (arith, div-le-self (sumAt c n) perday)

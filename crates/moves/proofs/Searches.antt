@@ -2,7 +2,7 @@
 -- Assumes nothing.
 use Prim.Native.Nat.{ℕ, zero, suc, _+_, _-_, _/_, _%_, _≤_, _<_}
 use mathlib.Core.Path.{_≡_, refl, sym, ap, _∙_}
-use mathlib.Core.Bool.{Bool, true, false, not}
+use mathlib.Core.Bool.{Bool, true, false, not, _&&_}
 use mathlib.Core.List.{List}
 use native.Mathlib.Omega.{arith}
 use lib.ListN.{getD}
@@ -16,7 +16,11 @@ use Rattle.periods.specs.Counters.{limitOf}
 use Rattle.moves.specs.Increments.{tickIsIn, ahead, firstTick, below, arrive}
 use Rattle.moves.proofs.Ahead.{ahead-ahead}
 
--- ---- a tick, tested hour first
+and-false : (b : Bool) → (b && false) ≡ false
+and-false true = refl
+and-false false = refl
+
+-- ---- a tick, tested part by part
 module _ (freq : Frequency) (clock : List Bool) (t : ℕ) where
   module _ (e : freq ≡ Frequency.Minutely) where
     pub minute-no : not (getD clock (t / 60) false) ≡ true → false ≡ tickIsIn freq clock t
@@ -27,19 +31,23 @@ module _ (freq : Frequency) (clock : List Bool) (t : ℕ) where
     unfolding tickIsIn
     minute-yes a = rw (e, not-false (getD clock (t / 60) false) a)
 
+  -- of a second the minute is asked before the hour
   module _ (e : freq ≡ Frequency.Secondly) where
-    pub second-no : not (getD clock (t / 3600) false) ≡ true → false ≡ tickIsIn freq clock t
+    pub second-no : not (getD clock (24 + t / 60 % 60) false) ≡ true → false ≡ tickIsIn freq clock t
     unfolding tickIsIn
-    second-no a = rw (e, not-true (getD clock (t / 3600) false) a)
+    second-no a = rw (e, not-true (getD clock (24 + t / 60 % 60) false) a) (rw (and-false (getD clock (t / 3600) false)))
 
-    module _ (a : not (getD clock (t / 3600) false) ≡ false) where
-      pub second-not-yet : not (getD clock (24 + t / 60 % 60) false) ≡ true → false ≡ tickIsIn freq clock t
-      unfolding tickIsIn
-      second-not-yet b = rw (e, not-false (getD clock (t / 3600) false) a, not-true (getD clock (24 + t / 60 % 60) false) b)
+    hour-is : (b : Bool) → getD clock (t / 60 / 60) false ≡ b → getD clock (t / 3600) false ≡ b
+    hour-is b a = let h : t / 3600 ≡ t / 60 / 60 = omega arith in rw h a
 
-      pub second-yes : not (getD clock (24 + t / 60 % 60) false) ≡ false → getD clock (84 + t % 60) false ≡ tickIsIn freq clock t
+    module _ (a : not (getD clock (24 + t / 60 % 60) false) ≡ false) where
+      pub second-not-yet : not (getD clock (t / 60 / 60) false) ≡ true → false ≡ tickIsIn freq clock t
       unfolding tickIsIn
-      second-yes b = rw (e, not-false (getD clock (t / 3600) false) a, not-false (getD clock (24 + t / 60 % 60) false) b)
+      second-not-yet b = rw (e, hour-is false (not-true _ b))
+
+      pub second-yes : not (getD clock (t / 60 / 60) false) ≡ false → getD clock (84 + t % 60) false ≡ tickIsIn freq clock t
+      unfolding tickIsIn
+      second-yes b = rw (e, hour-is true (not-false _ b), not-false (getD clock (24 + t / 60 % 60) false) a)
 
 -- ---- the search of the periods from number n + 1 up to number e
 module _ (freq : Frequency) (step : ℕ) (c : Counter) (clock : List Bool) where

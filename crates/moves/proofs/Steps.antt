@@ -4,7 +4,7 @@ use Prim.Native.Nat.{ℕ, _+_, _-_, _*_, _≤_, _<_}
 use mathlib.Core.Path.{_≡_, refl, sym, ap, _∙_}
 use mathlib.Core.Bool.{Bool, true, false, _&&_}
 use mathlib.Core.List.{List}
-use native.Mathlib.Nat.{zero-div, div-le-self, div-mul-le-self}
+use native.Mathlib.Nat.{mul-le-mul, zero-div, div-le-self, div-mul-le-self}
 use native.Mathlib.Omega.{arith}
 use borrow.Author.Tests.{ltb-true, leb-true, lt-ltb, le-leb}
 use Rattle.machine.specs.Given.{Move.To}
@@ -37,6 +37,16 @@ limit-fits Frequency.Daily = omega arith
 limit-fits Frequency.Hourly = omega arith
 limit-fits Frequency.Minutely = omega arith
 limit-fits Frequency.Secondly = omega arith
+
+-- as far as a cycle of the day leads, nothing wraps
+pub step-fits : (freq : Frequency) (perday days hop : ℕ) → perday ≡ ticks freq → days ≤ 65535 → hop < perday → days * perday + hop ≤ 5662310400
+step-fits freq perday days hop e d h =
+    let most : perday ≤ 86400 = rw e (ticks-fit freq) in
+    let far : days * perday ≤ 65535 * 86400 = mul-le-mul d most in
+    omega arith
+
+pub steps-fit : (tick step n : ℕ) → tick ≤ 86400 → step ≤ 5662310400 → n ≤ 86400 → tick + n * step ≤ 86400 + 86400 * 5662310400
+steps-fit tick step n t s h = let far : n * step ≤ 86400 * 5662310400 = mul-le-mul h s in omega arith
 
 -- ---- the periods passed over unseen
 pub skipped-none : (step tick : ℕ) (b : Bool) → skipped 1 step tick b ≡ 0

@@ -4,7 +4,7 @@ use periods::counter_date::Reached;
 use rule::rrule::Frequency;
 ghost use mathlib.Core.Path.{_≡_};
 ghost use mathlib.Core.Bool.{true, false};
-ghost use Prim.Native.Nat.{_+_, _-_, _*_, _<_, _≤_};
+ghost use Prim.Native.Nat.{_+_, _-_, _*_, _/_, _%_, _<_, _≤_};
 ghost use Rattle.rule.specs.Moves.{ticks};
 ghost use Rattle.periods.specs.Counters.{limitOf};
 ghost use Rattle.moves.specs.Increments.{tickIsIn, ahead, skipped, firstTick, below, arrive, stands, incremented};
@@ -63,7 +63,8 @@ fn in_range(counter: Counter, limit: u64) -> Reached
     }
 }
 
-// Whether a tick passes, as far as the frequency fixes hour, minute and second.
+// Whether a tick passes, as far as the frequency fixes hour, minute and second. Of a second the minute is asked first: with BYMINUTE alone
+// that settles most ticks in one look.
 fn tick_passes(freq: Frequency, tick: u64, clock: &[bool; 144]) -> bool
     requires { ⌜ tick < ticks freq ⌝ }
     ensures { λ r. ⌜ r ≡ tickIsIn freq (now (clock .entry)) tick ⌝ }
@@ -81,13 +82,15 @@ fn tick_passes(freq: Frequency, tick: u64, clock: &[bool; 144]) -> bool
             clock[24 + (tick % 60) as usize]
         }
         Frequency::Secondly => {
-            if !clock[(tick / 3600) as usize] {
+            let second = tick as u32;
+            let minutes = second / 60;
+            if !clock[24 + (minutes % 60) as usize] {
                 return false;
             }
-            if !clock[24 + (tick / 60 % 60) as usize] {
+            if !clock[(minutes / 60) as usize] {
                 return false;
             }
-            clock[84 + (tick % 60) as usize]
+            clock[84 + (second % 60) as usize]
         }
     }
 }
@@ -131,24 +134,36 @@ fn set_off(counter: Counter, passes: bool, perday: u64, step: u64) -> Counter
     }
 }
 
-// The counter of the next period: some days and a hop further, with one carry.
-fn step_on(counter: Counter, perday: u64, days: u64, hop: u64) -> Counter
-    requires { ⌜ (counter .k ≤ 2199023255552) × (counter .number ≤ 1152921504606846976) × (counter .tick < perday)
-        × (perday ≤ 86400) × (days ≤ 65535) × (hop < perday) ⌝ }
-    ensures { λ r. ⌜ r ≡ ahead perday (days * perday + hop) counter 1 ⌝ }
+// The tick of the next period: a hop further, with one carry at midnight.
+fn tick_after(tick: u64, perday: u64, hop: u64) -> u64
+    requires { ⌜ (tick < perday) × (hop < perday) × (perday ≤ 86400) ⌝ }
+    ensures { λ r. ⌜ r ≡ (tick + hop) % perday ⌝ }
 {
-    let tick = counter.tick + hop;
-    if tick < perday {
-        return Counter {
-            k: counter.k + 1,
-            number: counter.number + days,
-            tick,
-        };
+    let sum = tick + hop;
+    if sum < perday {
+        return sum;
     }
+    sum - perday
+}
+
+// How many midnights n periods lead past.
+fn midnights(tick: u64, perday: u64, step: u64, n: u64) -> u64
+    requires { ⌜ (tick < perday) × (perday ≤ 86400) × (step ≤ 5662310400) × (n ≤ 86400) ⌝ }
+    ensures { λ r. ⌜ r ≡ (tick + n * step) / perday ⌝ }
+{
+    (tick + n * step) / perday
+}
+
+// The counter n periods on, whose tick is known. The search counts no days on its way: they are counted here at once.
+fn counter_ahead(from: Counter, perday: u64, step: u64, n: u64, tick: u64) -> Counter
+    requires { ⌜ (from .k ≤ 1099511714176) × (from .number ≤ 3652059) × (from .tick < perday) ⌝ }
+    requires { ⌜ (perday ≤ 86400) × (step ≤ 5662310400) × (n ≤ 86400) × (tick ≡ ahead perday step from n .tick) ⌝ }
+    ensures { λ r. ⌜ r ≡ ahead perday step from n ⌝ }
+{
     Counter {
-        k: counter.k + 1,
-        number: counter.number + days + 1,
-        tick: tick - perday,
+        k: from.k + n,
+        number: from.number + midnights(from.tick, perday, step, n),
+        tick,
     }
 }
 
@@ -166,14 +181,15 @@ fn next_tick(
     ensures { λ r. ⌜ r ≡ arrive freq (days * perday + hop) from
         (firstTick freq (days * perday + hop) from (now (clock .entry)) perday 1) ⌝ }
 {
-    let mut at = from;
+    let step = days * perday + hop;
+    let mut tick = from.tick;
     let mut n: u64 = 0;
     while n < perday {
-        at = step_on(at, perday, days, hop);
-        if tick_passes(freq, at.tick, clock) {
-            return in_range(at, RANGE_END);
-        }
         n += 1;
+        tick = tick_after(tick, perday, hop);
+        if tick_passes(freq, tick, clock) {
+            return in_range(counter_ahead(from, perday, step, n, tick), RANGE_END);
+        }
     }
     Reached::NoTick
 }

@@ -44,20 +44,33 @@ element-copy-out-result-2 c = search needs
 enum-told-7 : tie.Need-enum-told-7
 enum-told-7 c = search needs
 
+cast-second : tie.Need-cast-second
+cast-second c = let h : c .before .before .args .tick < 86400 = rw (c .enum-told7 .given .1) at (c .before .before .pre) in omega arith
+
+cast-if2 : tie.Need-cast-if2
+cast-if2 c = search needs
+
+add-if2 : tie.Need-add-if2
+add-if2 c = search needs
+
 element-copy-out-if2 : tie.Need-element-copy-out-if2
-element-copy-out-if2 c = let h : c .before .before .args .tick < 86400 = rw (c .enum-told7 .given .1) at (c .before .before .pre) in omega arith
+element-copy-out-if2 c = search needs
 
 returns-2 : tie.Need-returns-2
 returns-2 c = second-no _ _ _ (c .before .before .enum-told7 .given .1) (c .if2 .taken)
 
-add-if3 : tie.Need-add-if3
-add-if3 c = search needs
+cast-if3 : tie.Need-cast-if3
+cast-if3 c = search needs
 
 element-copy-out-if3 : tie.Need-element-copy-out-if3
-element-copy-out-if3 c = search needs
+element-copy-out-if3 c =
+    let h : c .before .before .before .before .args .tick < 86400 = rw (c .before .before .enum-told7 .given .1) at (c .before .before .before .before .pre) in omega arith
 
 returns-3 : tie.Need-returns-3
 returns-3 c = second-not-yet _ _ _ (c .before .before .before .before .enum-told7 .given .1) (c .before .before .if2 .left) (c .if3 .taken)
+
+cast-result : tie.Need-cast-result
+cast-result c = search needs
 
 add-result-2 : tie.Need-add-result-2
 add-result-2 c = search needs
@@ -108,11 +121,15 @@ tick-passes-spec =
     add-result
     element-copy-out-result-2
     enum-told-7
+    cast-second
+    cast-if2
+    add-if2
     element-copy-out-if2
     returns-2
-    add-if3
+    cast-if3
     element-copy-out-if3
     returns-3
+    cast-result
     add-result-2
     element-copy-out-result-3
     returns-4
