@@ -5,4 +5,5 @@ pub mod NthLaws
 pub mod OneAnswer
 pub mod Rows
 pub mod Slots
+pub mod StandLaws
 pub mod Stretches

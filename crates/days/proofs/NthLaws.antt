@@ -12,25 +12,25 @@ use Rattle.weeks.specs.declared.yearinfo.Year.{Year}
 use Rattle.days.specs.Masks.{inTables, yearDayAt, yearLengthAt, nthAt}
 use Rattle.days.proofs.Rows.{row, year-day}
 
-module _ (inyear : Bool) (y : Year) (s : List Bool) (i : ℕ) where
-  pub nth-past : inTables (y .long) i ≡ false → false ≡ nthAt inyear y s i
+module _ (y : Year) (s : List Bool) (i : ℕ) where
+  pub nth-past : (inyear : Bool) → inTables (y .long) i ≡ false → false ≡ nthAt inyear y s i
   unfolding nthAt
-  nth-past h = rw h
+  nth-past inyear h = rw h
 
-  pub nth-in-year : (w p l : ℕ) → inTables (y .long) i ≡ true → inyear ≡ true → w ≡ weekday (y .first + i)
+  pub nth-in-year : (w p l : ℕ) → inTables (y .long) i ≡ true → w ≡ weekday (y .first + i)
       → p ≡ yearDayAt (y .long) i → l ≡ yearLengthAt (y .long) (y .nextlong) i + 1 - yearDayAt (y .long) i
-      → nthPasses s w p (p + l - 1) ≡ nthAt inyear y s i
+      → nthPasses s w p (p + l - 1) ≡ nthAt true y s i
   unfolding nthAt
-  nth-in-year w p l h k a b c =
+  nth-in-year w p l h a b c =
       let r = year-day (y .long) (y .nextlong) i (ltb-true i (daysOf (y .long) + 7) h) in
       let e : p + l - 1 ≡ yearLengthAt (y .long) (y .nextlong) i = omega arith in
-      rw (h, k, e, a, b)
+      rw (h, e, a, b)
 
-  pub nth-in-month : (w p l : ℕ) → inTables (y .long) i ≡ true → inyear ≡ false → w ≡ weekday (y .first + i)
+  pub nth-in-month : (w p l : ℕ) → inTables (y .long) i ≡ true → w ≡ weekday (y .first + i)
       → p ≡ tableDay (y .long) i .day → l ≡ fromEnd (tableDay (y .long) i)
-      → nthPasses s w p (p + l - 1) ≡ nthAt inyear y s i
+      → nthPasses s w p (p + l - 1) ≡ nthAt false y s i
   unfolding nthAt
-  nth-in-month w p l h k a b c =
+  nth-in-month w p l h a b c =
       let r = row (y .long) i (ltb-true i (daysOf (y .long) + 7) h) in
       let e : p + l - 1 ≡ tableDay (y .long) i .length = omega arith in
-      rw (h, k, e, a, b)
+      rw (h, e, a, b)

@@ -3,3 +3,4 @@ pub mod DaySets
 pub mod Filters
 pub mod Info
 pub mod Masks
+pub mod Stands

@@ -1,65 +1,23 @@
 -- `days::monthinfo::neg_weekday_mask` meets its contract.
 -- Assumes nothing.
-use Prim.Native.Nat.{_-_, _≤_}
-use mathlib.Core.Path.{_≡_, refl}
-use mathlib.Core.List.{_++_}
-use native.Mathlib.Omega.{arith}
-use lib.ListN.{length, take, length-set}
-use Rattle.rule.specs.Lists.{flags}
-use Rattle.days.specs.Masks.{nthAt, nthMask}
-use Rattle.days.proofs.MaskLaws.{mask-next, mask-done}
+use mathlib.Core.Path.{_≡_}
+use mathlib.Core.Bool.{true, false}
 use borrow.Author.Needs.{needs}
 use Rattle.days.proofs.monthinfo.neg_weekday_mask.Statement.{statement}
 use Rattle.days.proofs.monthinfo.neg_weekday_mask.Tie as tie
 
-abbrev Inv-loop : tie.InvT-loop
-Inv-loop inyear year byday mask₀ place₀ mask place =
-    (place ≤ 373) × (length mask ≡ 373) × (take place mask ++ flags (nthAt inyear year byday) (373 - place) place ≡ nthMask inyear year byday)
+year-mask-requires : tie.Need-year-mask-requires
+year-mask-requires c κs = search needs
 
-abbrev μ-loop : tie.MeasureT-loop
-μ-loop inyear year byday mask₀ place₀ mask place = 373 - place
+returns : tie.Need-returns
+returns c = let h : c .before .before .args .inyear ≡ true = c .before .if1 .taken in rw h (c .year-mask .ensures)
 
-loop-holds : tie.Need-loop-holds Inv-loop μ-loop
-unfolding nthMask
-loop-holds c = (omega arith, refl, refl)
+month-mask-requires : tie.Need-month-mask-requires
+month-mask-requires c κs = search needs
 
-nth-passes-at-requires : tie.Need-nth-passes-at-requires Inv-loop μ-loop
-nth-passes-at-requires c κs = search needs
-
-array-write-mask : tie.Need-array-write-mask Inv-loop μ-loop
-array-write-mask c = search needs
-
-add-place : tie.Need-add-place Inv-loop μ-loop
-add-place c = search needs
-
-loop-less : tie.Need-loop-less Inv-loop μ-loop
-loop-less c = search needs
-
-loop-again : tie.Need-loop-again Inv-loop μ-loop
-loop-again c =
-    let a = c .before .before .before .args in
-    let l = c .before .before .loop in (
-      search needs,
-      simp length-set (l .inv .1),
-      mask-next (nthAt (a .inyear) (a .year) (a .byday .now)) 373 (l .mask) (nthMask (a .inyear) (a .year) (a .byday .now)) (l .place) (c .nth-passes-at .result) (search needs) (l .inv .1) (c .nth-passes-at .ensures) (l .inv .2),
-    )
-
-returns : tie.Need-returns Inv-loop μ-loop
-returns c =
-    let a = c .before .before .args in
-    let l = c .before .loop in
-    mask-done (nthAt (a .inyear) (a .year) (a .byday .now)) 373 (l .mask) (nthMask (a .inyear) (a .year) (a .byday .now)) (l .place) (search needs) (l .inv .1) (l .inv .2)
+returns-2 : tie.Need-returns-2
+returns-2 c = let h : c .before .before .args .inyear ≡ false = c .before .if1 .left in rw h (c .month-mask .ensures)
 
 pub neg-weekday-mask-spec : {M : Type 1} → statement M
 neg-weekday-mask-spec =
-    tie.close
-    (tie.spec
-    Inv-loop
-    μ-loop
-    loop-holds
-    nth-passes-at-requires
-    array-write-mask
-    add-place
-    loop-less
-    loop-again
-    returns)
+    tie.close (tie.spec year-mask-requires returns month-mask-requires returns-2)

@@ -1,0 +1,61 @@
+-- `days::monthinfo::counts_in_months` meets its contract.
+-- Assumes nothing.
+use Prim.Native.Nat.{_-_, _≤_}
+use mathlib.Core.Path.{_≡_}
+use mathlib.Core.Bool.{false}
+use native.Mathlib.Omega.{arith}
+use borrow.Author.Needs.{needs}
+use Rattle.days.proofs.StandLaws.{NoneUpTo, none-yet, one-row-more, all-rows}
+use Rattle.days.proofs.monthinfo.counts_in_months.Statement.{statement}
+use Rattle.days.proofs.monthinfo.counts_in_months.Tie as tie
+
+abbrev Inv-loop : tie.InvT-loop
+Inv-loop byday weekday some₀ row₀ some row = (48 ≤ row) × (row ≤ 59) × (some ≡ false → NoneUpTo byday weekday row)
+
+abbrev μ-loop : tie.MeasureT-loop
+μ-loop byday weekday some₀ row₀ some row = 59 - row
+
+loop-holds : tie.Need-loop-holds Inv-loop μ-loop
+loop-holds c = (omega arith, omega arith, λ e. none-yet (c .args .byday .now) (c .args .weekday))
+
+mul-some : tie.Need-mul-some Inv-loop μ-loop
+mul-some c = search needs
+
+add-some : tie.Need-add-some Inv-loop μ-loop
+add-some c = search needs
+
+element-copy-out-some : tie.Need-element-copy-out-some Inv-loop μ-loop
+element-copy-out-some c = search needs
+
+add-row : tie.Need-add-row Inv-loop μ-loop
+add-row c = search needs
+
+loop-less : tie.Need-loop-less Inv-loop μ-loop
+loop-less c = search needs
+
+loop-again : tie.Need-loop-again Inv-loop μ-loop
+loop-again c =
+    let a = c .before .before .before .args in
+    let l = c .before .before .loop in
+    (omega arith, omega arith, one-row-more (a .byday .now) (a .weekday) (l .row) (l .some) (l .inv .2))
+
+returns : tie.Need-returns Inv-loop μ-loop
+returns c =
+    let a = c .before .before .args in
+    let l = c .before .loop in
+    λ e. all-rows (a .byday .now) (a .weekday) (l .row) (omega arith) (l .inv .2 e)
+
+pub counts-in-months-spec : {M : Type 1} → statement M
+counts-in-months-spec =
+    tie.close
+    (tie.spec
+    Inv-loop
+    μ-loop
+    loop-holds
+    mul-some
+    add-some
+    element-copy-out-some
+    add-row
+    loop-less
+    loop-again
+    returns)
