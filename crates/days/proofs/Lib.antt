@@ -1,5 +1,6 @@
 pub mod DayTest
 pub mod FilterLaws
+pub mod MarkLaws
 pub mod MaskLaws
 pub mod NthLaws
 pub mod OneAnswer

@@ -7,12 +7,13 @@ use crate::places::year_day_from_end;
 use calendar::masks::month_length;
 use weeks::yearinfo::Year;
 ghost use mathlib.Core.Path.{_≡_};
-ghost use mathlib.Core.Bool.{true, false, _&&_};
+ghost use mathlib.Core.Bool.{true, false};
 ghost use Prim.Native.Nat.{_+_, _-_, _%_, _≤_, _<_};
+ghost use lib.ListN.{length};
 ghost use Rattle.calendar.specs.Calendar.{daysOf};
 ghost use Rattle.rule.specs.Days.{nthPasses};
 ghost use Rattle.days.specs.Masks.{nthAt, nthMask};
-ghost use Rattle.days.specs.Stands.{standAfter, monthAfter, NoneInMonths, Covers};
+ghost use Rattle.days.specs.Stands.{monthAfter, weekLater, NoneInMonths, Marked};
 
 // Whether a day passes an nth entry: its place in its month or year, counted from 1, and the same from the end.
 fn nth_passes(byday: &[bool; 749], weekday: usize, place: usize, left: usize) -> bool
@@ -60,28 +61,6 @@ fn counts_in_months(byday: &[bool; 749], weekday: usize) -> bool
     some
 }
 
-// For each weekday; days of the others are left out of the count.
-fn weekdays_in_months(byday: &[bool; 749]) -> [bool; 7]
-    ensures { λ r. ⌜ Covers r (now (byday .entry)) ⌝ }
-{
-    let monday = counts_in_months(byday, 0);
-    let tuesday = counts_in_months(byday, 1);
-    let wednesday = counts_in_months(byday, 2);
-    let thursday = counts_in_months(byday, 3);
-    let friday = counts_in_months(byday, 4);
-    let saturday = counts_in_months(byday, 5);
-    let sunday = counts_in_months(byday, 6);
-    [
-        monday,
-        tuesday,
-        wednesday,
-        thursday,
-        friday,
-        saturday,
-        sunday,
-    ]
-}
-
 // Where a day stands: its month, its place in it counted from 1, and the same from the month's end.
 struct Stand {
     month: u8,
@@ -95,32 +74,25 @@ fn month_after(month: u8) -> u8
     if month < 12 { month + 1 } else { 1 }
 }
 
-// The next day's stand. Stepping is cheaper than reading the year's tables at each place.
-fn next_stand(long: bool, at: Stand) -> Stand
-    requires { ⌜ at .day ≤ 31 ⌝ }
-    ensures { λ r. ⌜ r ≡ standAfter long at ⌝ }
+// The stand a week later. Stepping is cheaper than reading the year's tables at each place.
+fn week_later(long: bool, at: Stand) -> Stand
+    requires { ⌜ (at .day ≤ 31) × (1 ≤ at .left) ⌝ }
+    ensures { λ r. ⌜ r ≡ weekLater long at ⌝ }
 {
-    if 1 < at.left {
+    if 7 < at.left {
         return Stand {
             month: at.month,
-            day: at.day + 1,
-            left: at.left - 1,
+            day: at.day + 7,
+            left: at.left - 7,
         };
     }
     let month = month_after(at.month);
-    let left = month_length(long, month) as usize;
+    let left = month_length(long, month) as usize + at.left - 7;
     Stand {
         month,
-        day: 1,
+        day: 8 - at.left,
         left,
     }
-}
-
-fn weekday_after(weekday: usize) -> usize
-    requires { ⌜ weekday < 7 ⌝ }
-    ensures { λ r. ⌜ r ≡ (weekday + 1) % 7 ⌝ }
-{
-    if weekday < 6 { weekday + 1 } else { 0 }
 }
 
 // The places of a year's tables.
@@ -130,32 +102,43 @@ fn places_of(long: bool) -> usize
     if long { 373 } else { 372 }
 }
 
-fn nth_passes_where(asked: bool, byday: &[bool; 749], weekday: usize, at: Stand) -> bool
-    requires { ⌜ (weekday < 7) × (1 ≤ at .day) × (at .day ≤ 31) × (1 ≤ at .left) × (at .left ≤ 31) ⌝ }
-    ensures { λ r. ⌜ r ≡ (asked && nthPasses (now (byday .entry)) weekday (at .day) (at .day + at .left - 1)) ⌝ }
+// The first place that falls on a weekday, in the year with this first day.
+fn first_place(first: u64, weekday: usize) -> usize
+    requires { ⌜ weekday < 7 ⌝ }
+    ensures { λ r. ⌜ (r < 7) × ((first + r) % 7 ≡ weekday) ⌝ }
 {
-    if !asked {
-        return false;
-    }
-    nth_passes(byday, weekday, at.day, at.left)
+    (weekday + 7 - (first % 7) as usize) % 7
 }
 
+// Marks the days of a weekday that pass.
+fn mark_weekday(year: Year, byday: &[bool; 749], weekday: usize, mask: &mut [bool; 373])
+    requires { ⌜ (weekday < 7) × (length (now mask) ≡ 373) ⌝ }
+    ensures { λ _. ⌜ Marked (nthAt false year (now (byday .entry))) (year .first) weekday (daysOf (year .long) + 7) (now (mask .entry)) (now (mask .exit)) ⌝ }
+{
+    let end = places_of(year.long);
+    let mut place = first_place(year.first, weekday);
+    let mut at = Stand {
+        month: 1,
+        day: place + 1,
+        left: 31 - place,
+    };
+    while place < end {
+        mask[place] = nth_passes(byday, weekday, at.day, at.left);
+        at = week_later(year.long, at);
+        place += 7;
+    }
+}
+
+// Only weekdays that have an entry are gone through.
 fn month_mask(year: Year, byday: &[bool; 749]) -> [bool; 373]
     ensures { λ r. ⌜ r ≡ nthMask false year (now (byday .entry)) ⌝ }
 {
-    let asked = weekdays_in_months(byday);
-    let end = places_of(year.long);
     let mut mask = [false; 373];
-    let mut weekday = (year.first % 7) as usize;
-    let mut at = Stand {
-        month: 1,
-        day: 1,
-        left: 31,
-    };
-    for place in 0..end {
-        mask[place] = nth_passes_where(asked[weekday], byday, weekday, at);
-        weekday = weekday_after(weekday);
-        at = next_stand(year.long, at);
+    for weekday in 0..7 {
+        if !counts_in_months(byday, weekday) {
+            continue;
+        }
+        mark_weekday(year, byday, weekday, &mut mask);
     }
     mask
 }

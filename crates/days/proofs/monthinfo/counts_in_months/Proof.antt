@@ -5,7 +5,7 @@ use mathlib.Core.Path.{_≡_}
 use mathlib.Core.Bool.{false}
 use native.Mathlib.Omega.{arith}
 use borrow.Author.Needs.{needs}
-use Rattle.days.proofs.StandLaws.{NoneUpTo, none-yet, one-row-more, all-rows}
+use Rattle.days.proofs.MarkLaws.{NoneUpTo, no-rows, one-row-more, all-rows}
 use Rattle.days.proofs.monthinfo.counts_in_months.Statement.{statement}
 use Rattle.days.proofs.monthinfo.counts_in_months.Tie as tie
 
@@ -16,7 +16,7 @@ abbrev μ-loop : tie.MeasureT-loop
 μ-loop byday weekday some₀ row₀ some row = 59 - row
 
 loop-holds : tie.Need-loop-holds Inv-loop μ-loop
-loop-holds c = (omega arith, omega arith, λ e. none-yet (c .args .byday .now) (c .args .weekday))
+loop-holds c = (omega arith, omega arith, λ e. no-rows (c .args .byday .now) (c .args .weekday))
 
 mul-some : tie.Need-mul-some Inv-loop μ-loop
 mul-some c = search needs
