@@ -1,4 +1,4 @@
--- The mask of the months' nth weekdays, written weekday by weekday; a weekday with no entry is left out.
+-- The mask of the nth weekdays, written weekday by weekday; a weekday with no entry is left out.
 -- Assumes nothing.
 use Prim.Native.Nat.{ℕ, _+_, _-_, _*_, _/_, _≤_, _<_}
 use mathlib.Core.Path.{_≡_, refl, sym, ap, _∙_}
@@ -8,51 +8,62 @@ use lib.ListN.{length, getD, set, replicate, length-set, length-replicate, getD-
 use lib.Seq.{ext-getD, getD-set-same, getD-set-other}
 use native.Mathlib.Omega.{arith}
 use native.Mathlib.Decide.{decLt, ℕ-discrete}
-use borrow.Author.Tests.{le-ltb}
+use borrow.Author.Tests.{lt-ltb, le-ltb}
 use Rattle.calendar.specs.Calendar.{daysOf, weekday}
 use Rattle.rule.specs.Lists.{flags}
 use Rattle.rule.specs.Days.{nthPasses}
 use Rattle.rule.proofs.SetLaws.{flags-at}
 use Rattle.weeks.specs.declared.yearinfo.Year.{Year}
 use Rattle.days.specs.declared.monthinfo.Stand.{Stand}
-use Rattle.days.specs.Masks.{nthAt, nthMask}
-use Rattle.days.specs.Stands.{standAt, NoneInMonths, Marked}
+use Rattle.days.specs.Masks.{yearDayAt, yearLengthAt, nthAt, nthMask}
+use Rattle.days.specs.Stands.{standAt, NoEntry, Marked}
+use Rattle.days.proofs.Rows.{year-day}
 use Rattle.days.proofs.Slots.{nth-slots}
-use Rattle.days.proofs.NthLaws.{nth-past}
+use Rattle.days.proofs.NthLaws.{nth-past, nth-in-year}
 use Rattle.days.proofs.StandLaws.{InMonth, in-month, passes-at}
 
--- The weekday w has no entry in the rows from 48 up to n; in one row more; in all of them.
-abbrev pub NoneUpTo : List Bool → ℕ → ℕ → Type 0
-NoneUpTo s w n = (row : ℕ) → 48 ≤ row → row < n → getD s (row * 7 + w) false ≡ false
+-- no row is read yet; one more is; all are
+pub no-rows : (s : List Bool) (w from : ℕ) → NoEntry s w from from
+unfolding NoEntry
+no-rows s w from row l h = absurd (omega arith)
 
-pub no-rows : (s : List Bool) (w : ℕ) → NoneUpTo s w 48
-no-rows s w row l h = absurd (omega arith)
-
-pub one-row-more : (s : List Bool) (w n : ℕ) (b : Bool) → (b ≡ false → NoneUpTo s w n) → (b || getD s (n * 7 + w) false) ≡ false → NoneUpTo s w (n + 1)
-one-row-more s w n true f e row l h = absurd (let z : _≡_ {A = ℕ} 0 1 = cc in omega arith)
-one-row-more s w n false f e row l h = go (decLt row n)
+pub one-row-more : (s : List Bool) (w from n : ℕ) (b : Bool) → (b ≡ false → NoEntry s w from n) → (b || getD s (n * 7 + w) false) ≡ false
+    → NoEntry s w from (n + 1)
+unfolding NoEntry
+one-row-more s w from n true f e row l h = absurd (let z : _≡_ {A = ℕ} 0 1 = cc in omega arith)
+one-row-more s w from n false f e row l h = go (decLt row n)
   where
     go : Dec (row < n) → getD s (row * 7 + w) false ≡ false
     go (yes k) = f refl row l k
     go (no k) = let q : row ≡ n = omega arith in ap (λ (m : ℕ). getD s (m * 7 + w) false) q ∙ e
 
-pub all-rows : (s : List Bool) (w n : ℕ) → 59 ≤ n → NoneUpTo s w n → NoneInMonths s w
-unfolding NoneInMonths
-all-rows s w n h f row l k = f row l (omega arith)
+pub all-rows : (s : List Bool) (w from n to : ℕ) → to ≤ n → NoEntry s w from n → NoEntry s w from to
+unfolding NoEntry
+all-rows s w from n to h f row l k = f row l (omega arith)
 
--- without an entry no day of a month passes
-none-passes : (s : List Bool) (w p l : ℕ) → w < 7 → 1 ≤ p → p ≤ 31 → 1 ≤ l → l ≤ 31 → NoneInMonths s w → nthPasses s w p (p + l - 1) ≡ false
-unfolding NoneInMonths
-none-passes s w p l hw a b c d f =
-    nth-slots s w p l hw a (omega arith) c (omega arith)
-    ∙ (rw (f ((p - 1) / 7 + 54) (omega arith) (omega arith), f (52 - (l - 1) / 7) (omega arith) (omega arith)))
+-- Without an entry no day passes: a month's days ask for the rows 48 to 58.
+none-passes : (s : List Bool) (w p l from to : ℕ) → w < 7 → 1 ≤ p → p ≤ 366 → 1 ≤ l → l ≤ 366
+    → from ≤ 52 - (l - 1) / 7 → (p - 1) / 7 + 54 < to → 52 < to → from ≤ 54 → NoEntry s w from to → nthPasses s w p (p + l - 1) ≡ false
+unfolding NoEntry
+none-passes s w p l from to hw a b c d x y u v f =
+    nth-slots s w p l hw a b c d ∙ (rw (f ((p - 1) / 7 + 54) (omega arith) y, f (52 - (l - 1) / 7) x (omega arith)))
 
-none-at : (y : Year) (s : List Bool) (i : ℕ) → i < daysOf (y .long) + 7 → NoneInMonths s (weekday (y .first + i)) → nthAt false y s i ≡ false
-none-at y s i h n =
+none-in-month : (y : Year) (s : List Bool) (i : ℕ) → i < daysOf (y .long) + 7 → NoEntry s (weekday (y .first + i)) 48 59 → nthAt false y s i ≡ false
+none-in-month y s i h n =
     let p : Stand = standAt (y .long) i in
     let m : InMonth p = in-month (y .long) i p h refl in
     sym (passes-at y s i (weekday (y .first + i)) p h refl refl)
-    ∙ none-passes s (weekday (y .first + i)) (p .day) (p .left) (omega arith) (m .day-low) (m .day-high) (m .left-low) (m .left-high) n
+    ∙ none-passes s (weekday (y .first + i)) (p .day) (p .left) 48 59 (omega arith) (omega arith) (omega arith) (omega arith) (omega arith)
+    (omega arith) (omega arith) (omega arith) (omega arith) n
+
+none-in-year : (y : Year) (s : List Bool) (i : ℕ) → i < daysOf (y .long) + 7 → NoEntry s (weekday (y .first + i)) 0 107 → nthAt true y s i ≡ false
+none-in-year y s i h n =
+    let p : ℕ = yearDayAt (y .long) i in
+    let l : ℕ = yearLengthAt (y .long) (y .nextlong) i + 1 - yearDayAt (y .long) i in
+    let r = year-day (y .long) (y .nextlong) i h in
+    sym (nth-in-year y s i (weekday (y .first + i)) p l (lt-ltb i (daysOf (y .long) + 7) h) refl refl refl)
+    ∙ none-passes s (weekday (y .first + i)) p l 0 107 (omega arith) (omega arith) (omega arith) (omega arith) (omega arith)
+    (omega arith) (omega arith) (omega arith) (omega arith) n
 
 -- The days of one weekday: none is marked before the first of them; one more is; all are, where the place has passed the end.
 module _ (f : ℕ → Bool) (first w : ℕ) (was : List Bool) where
@@ -121,11 +132,14 @@ module _ (f : ℕ → Bool) (first n : ℕ) where
 
 -- the mask of a year: a weekday with no entry, and the whole
 module _ (y : Year) (s : List Bool) where
-  pub left-out : (w : ℕ) → NoneInMonths s w → (k : ℕ) → k < daysOf (y .long) + 7 → weekday (y .first + k) ≡ w → nthAt false y s k ≡ false
-  left-out w n k h e = none-at y s k h (rw e n)
+  pub left-out-of-months : (w : ℕ) → NoEntry s w 48 59 → (k : ℕ) → k < daysOf (y .long) + 7 → weekday (y .first + k) ≡ w → nthAt false y s k ≡ false
+  left-out-of-months w n k h e = none-in-month y s k h (rw e n)
 
-  pub month-mask-is : (mask : List Bool) → Through (nthAt false y s) (y .first) (daysOf (y .long) + 7) 7 mask → mask ≡ nthMask false y s
+  pub left-out-of-year : (w : ℕ) → NoEntry s w 0 107 → (k : ℕ) → k < daysOf (y .long) + 7 → weekday (y .first + k) ≡ w → nthAt true y s k ≡ false
+  left-out-of-year w n k h e = none-in-year y s k h (rw e n)
+
+  pub mask-is : (inyear : Bool) (mask : List Bool) → Through (nthAt inyear y s) (y .first) (daysOf (y .long) + 7) 7 mask → mask ≡ nthMask inyear y s
   unfolding nthMask
-  month-mask-is mask t =
-      all-through (nthAt false y s) (y .first) (daysOf (y .long) + 7) mask
-      (λ k l. sym (nth-past y s k false (le-ltb k (daysOf (y .long) + 7) l))) t
+  mask-is inyear mask t =
+      all-through (nthAt inyear y s) (y .first) (daysOf (y .long) + 7) mask
+      (λ k l. sym (nth-past y s k inyear (le-ltb k (daysOf (y .long) + 7) l))) t

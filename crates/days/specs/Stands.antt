@@ -32,9 +32,9 @@ weekLater long s =
     then record { month = s .month; day = s .day + 7; left = s .left - 7 }
     else intoMonth long (monthAfter (s .month)) (s .left)
 
--- The weekday w has no entry with n from -5 to 5, in the rows 48 to 58 of the set.
-unfoldable pub NoneInMonths : List Bool → ℕ → Type 0
-NoneInMonths s w = (row : ℕ) → 48 ≤ row → row < 59 → getD s (row * 7 + w) false ≡ false
+-- The weekday w has no entry in the rows of the set from one up to another.
+unfoldable pub NoEntry : List Bool → ℕ → ℕ → ℕ → Type 0
+NoEntry s w from to = (row : ℕ) → from ≤ row → row < to → getD s (row * 7 + w) false ≡ false
 
 -- In the mask of a year with this first day, the places below n on the weekday w have what f says; every other place has what it had.
 pub record Marked (f : ℕ → Bool) (first w n : ℕ) (was is : List Bool) : Type 0 where

@@ -1,7 +1,5 @@
 // The mask of the nth weekdays: for each day of a year, and for the seven days after it, whether BYDAY has an entry (n, weekday), n not 0,
 // that it passes.
-use crate::places::is_past;
-use crate::places::weekday_at;
 use crate::places::year_day;
 use crate::places::year_day_from_end;
 use calendar::masks::month_length;
@@ -13,7 +11,7 @@ ghost use lib.ListN.{length};
 ghost use Rattle.calendar.specs.Calendar.{daysOf};
 ghost use Rattle.rule.specs.Days.{nthPasses};
 ghost use Rattle.days.specs.Masks.{nthAt, nthMask};
-ghost use Rattle.days.specs.Stands.{monthAfter, weekLater, NoneInMonths, Marked};
+ghost use Rattle.days.specs.Stands.{monthAfter, weekLater, NoEntry, Marked};
 
 // Whether a day passes an nth entry: its place in its month or year, counted from 1, and the same from the end.
 fn nth_passes(byday: &[bool; 749], weekday: usize, place: usize, left: usize) -> bool
@@ -25,40 +23,60 @@ fn nth_passes(byday: &[bool; 749], weekday: usize, place: usize, left: usize) ->
     byday[forward] | byday[back]
 }
 
-// At a place of the tables, where the entries count in the year.
-fn nth_in_year_at(year: Year, byday: &[bool; 749], place: usize) -> bool
-    ensures { λ r. ⌜ r ≡ nthAt true year (now (byday .entry)) place ⌝ }
+// Whether the set has an entry for a weekday in the rows from one up to another.
+fn has_entry(byday: &[bool; 749], weekday: usize, from: usize, to: usize) -> bool
+    requires { ⌜ (weekday < 7) × (from ≤ to) × (to ≤ 107) ⌝ }
+    ensures { λ r. ⌜ (r ≡ false → NoEntry (now (byday .entry)) weekday from to) ⌝ }
 {
-    let long = year.long;
-    if is_past(long, place) {
-        return false;
+    let mut some = false;
+    for row in from..to {
+        some = some | byday[row * 7 + weekday];
     }
-    let weekday = weekday_at(year.first, place);
-    let day = year_day(long, place);
-    let left = year_day_from_end(long, year.nextlong, place);
-    nth_passes(byday, weekday, day, left)
+    some
 }
 
+// The places of a year's tables.
+fn places_of(long: bool) -> usize
+    ensures { λ r. ⌜ r ≡ daysOf long + 7 ⌝ }
+{
+    if long { 373 } else { 372 }
+}
+
+// The first place that falls on a weekday, in the year with this first day.
+fn first_place(first: u64, weekday: usize) -> usize
+    requires { ⌜ weekday < 7 ⌝ }
+    ensures { λ r. ⌜ (r < 7) × ((first + r) % 7 ≡ weekday) ⌝ }
+{
+    (weekday + 7 - (first % 7) as usize) % 7
+}
+
+// Marks the days of a weekday that pass, where the entries count in the year.
+fn mark_in_year(year: Year, byday: &[bool; 749], weekday: usize, mask: &mut [bool; 373])
+    requires { ⌜ (weekday < 7) × (length (now mask) ≡ 373) ⌝ }
+    ensures { λ _. ⌜ Marked (nthAt true year (now (byday .entry))) (year .first) weekday (daysOf (year .long) + 7) (now (mask .entry)) (now (mask .exit)) ⌝ }
+{
+    let end = places_of(year.long);
+    let mut place = first_place(year.first, weekday);
+    while place < end {
+        let day = year_day(year.long, place);
+        let left = year_day_from_end(year.long, year.nextlong, place);
+        mask[place] = nth_passes(byday, weekday, day, left);
+        place += 7;
+    }
+}
+
+// Only weekdays that have an entry are gone through.
 fn year_mask(year: Year, byday: &[bool; 749]) -> [bool; 373]
     ensures { λ r. ⌜ r ≡ nthMask true year (now (byday .entry)) ⌝ }
 {
     let mut mask = [false; 373];
-    for place in 0..373 {
-        mask[place] = nth_in_year_at(year, byday, place);
+    for weekday in 0..7 {
+        if !has_entry(byday, weekday, 0, 107) {
+            continue;
+        }
+        mark_in_year(year, byday, weekday, &mut mask);
     }
     mask
-}
-
-// Whether the set has an entry for a weekday that a day of a month can pass: n from -5 to 5, in the rows 48 to 58.
-fn counts_in_months(byday: &[bool; 749], weekday: usize) -> bool
-    requires { ⌜ weekday < 7 ⌝ }
-    ensures { λ r. ⌜ (r ≡ false → NoneInMonths (now (byday .entry)) weekday) ⌝ }
-{
-    let mut some = false;
-    for row in 48..59 {
-        some = some | byday[row * 7 + weekday];
-    }
-    some
 }
 
 // Where a day stands: its month, its place in it counted from 1, and the same from the month's end.
@@ -95,23 +113,8 @@ fn week_later(long: bool, at: Stand) -> Stand
     }
 }
 
-// The places of a year's tables.
-fn places_of(long: bool) -> usize
-    ensures { λ r. ⌜ r ≡ daysOf long + 7 ⌝ }
-{
-    if long { 373 } else { 372 }
-}
-
-// The first place that falls on a weekday, in the year with this first day.
-fn first_place(first: u64, weekday: usize) -> usize
-    requires { ⌜ weekday < 7 ⌝ }
-    ensures { λ r. ⌜ (r < 7) × ((first + r) % 7 ≡ weekday) ⌝ }
-{
-    (weekday + 7 - (first % 7) as usize) % 7
-}
-
-// Marks the days of a weekday that pass.
-fn mark_weekday(year: Year, byday: &[bool; 749], weekday: usize, mask: &mut [bool; 373])
+// The same where they count in the month.
+fn mark_in_month(year: Year, byday: &[bool; 749], weekday: usize, mask: &mut [bool; 373])
     requires { ⌜ (weekday < 7) × (length (now mask) ≡ 373) ⌝ }
     ensures { λ _. ⌜ Marked (nthAt false year (now (byday .entry))) (year .first) weekday (daysOf (year .long) + 7) (now (mask .entry)) (now (mask .exit)) ⌝ }
 {
@@ -129,16 +132,16 @@ fn mark_weekday(year: Year, byday: &[bool; 749], weekday: usize, mask: &mut [boo
     }
 }
 
-// Only weekdays that have an entry are gone through.
+// A day of a month can pass n from -5 to 5: rows 48 to 58.
 fn month_mask(year: Year, byday: &[bool; 749]) -> [bool; 373]
     ensures { λ r. ⌜ r ≡ nthMask false year (now (byday .entry)) ⌝ }
 {
     let mut mask = [false; 373];
     for weekday in 0..7 {
-        if !counts_in_months(byday, weekday) {
+        if !has_entry(byday, weekday, 48, 59) {
             continue;
         }
-        mark_weekday(year, byday, weekday, &mut mask);
+        mark_in_month(year, byday, weekday, &mut mask);
     }
     mask
 }

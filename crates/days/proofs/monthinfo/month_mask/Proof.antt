@@ -9,7 +9,7 @@ use borrow.Author.Tests.{not-true}
 use Rattle.calendar.specs.Calendar.{daysOf}
 use Rattle.days.specs.Masks.{nthAt}
 use Rattle.days.proofs.Rows.{days-high}
-use Rattle.days.proofs.MarkLaws.{Through, none-through, one-through, one-left-out, left-out, month-mask-is}
+use Rattle.days.proofs.MarkLaws.{Through, none-through, one-through, one-left-out, left-out-of-months, mask-is}
 use Rattle.days.proofs.monthinfo.month_mask.Statement.{statement}
 use Rattle.days.proofs.monthinfo.month_mask.Tie as tie
 
@@ -23,8 +23,8 @@ abbrev μ-loop : tie.MeasureT-loop
 loop-holds : tie.Need-loop-holds Inv-loop μ-loop
 loop-holds c = (omega arith, none-through _ _ _)
 
-counts-in-months-requires : tie.Need-counts-in-months-requires Inv-loop μ-loop
-counts-in-months-requires c κs = search needs
+has-entry-requires : tie.Need-has-entry-requires Inv-loop μ-loop
+has-entry-requires c κs = search needs
 
 add-weekday : tie.Need-add-weekday Inv-loop μ-loop
 add-weekday c = search needs
@@ -36,14 +36,14 @@ loop-again : tie.Need-loop-again Inv-loop μ-loop
 loop-again c =
     let a = c .before .before .before .before .args in
     let l = c .before .before .before .loop in
-    let n = c .before .counts-in-months .ensures (not-true _ (c .if1 .taken)) in (
+    let n = c .before .has-entry .ensures (not-true _ (c .if1 .taken)) in (
       omega arith,
       one-left-out (nthAt false (a .year) (a .byday .now)) (a .year .first) (daysOf (a .year .long) + 7) (l .weekday) (l .mask)
-          (omega (arith, days-high (a .year .long))) (left-out (a .year) (a .byday .now) (l .weekday) n) (l .inv .1),
+          (omega (arith, days-high (a .year .long))) (left-out-of-months (a .year) (a .byday .now) (l .weekday) n) (l .inv .1),
     )
 
-mark-weekday-requires : tie.Need-mark-weekday-requires Inv-loop μ-loop
-mark-weekday-requires c κs = (omega arith, c .before .before .before .before .loop .inv .1 .size)
+mark-in-month-requires : tie.Need-mark-in-month-requires Inv-loop μ-loop
+mark-in-month-requires c κs = (omega arith, c .before .before .before .before .loop .inv .1 .size)
 
 add-weekday-2 : tie.Need-add-weekday-2 Inv-loop μ-loop
 add-weekday-2 c = search needs
@@ -56,7 +56,7 @@ loop-again-2 c =
     let a = c .before .before .before .before .before .before .args in
     let l = c .before .before .before .before .before .loop in (
       omega arith,
-      one-through (nthAt false (a .year) (a .byday .now)) (a .year .first) (daysOf (a .year .long) + 7) (l .weekday) (l .mask) _ (c .mark-weekday .ensures) (l .inv .1),
+      one-through (nthAt false (a .year) (a .byday .now)) (a .year .first) (daysOf (a .year .long) + 7) (l .weekday) (l .mask) _ (c .mark-in-month .ensures) (l .inv .1),
     )
 
 returns : tie.Need-returns Inv-loop μ-loop
@@ -64,7 +64,7 @@ returns c =
     let a = c .before .before .args in
     let l = c .before .loop in
     let e : l .weekday ≡ 7 = omega arith in
-    month-mask-is (a .year) (a .byday .now) (l .mask) (rw e at (l .inv .1))
+    mask-is (a .year) (a .byday .now) false (l .mask) (rw e at (l .inv .1))
 
 pub month-mask-spec : {M : Type 1} → statement M
 month-mask-spec =
@@ -73,11 +73,11 @@ month-mask-spec =
     Inv-loop
     μ-loop
     loop-holds
-    counts-in-months-requires
+    has-entry-requires
     add-weekday
     loop-less
     loop-again
-    mark-weekday-requires
+    mark-in-month-requires
     add-weekday-2
     loop-less-2
     loop-again-2

@@ -1,22 +1,23 @@
--- `days::monthinfo::counts_in_months` meets its contract.
+-- `days::monthinfo::has_entry` meets its contract.
 -- Assumes nothing.
 use Prim.Native.Nat.{_-_, _≤_}
 use mathlib.Core.Path.{_≡_}
 use mathlib.Core.Bool.{false}
 use native.Mathlib.Omega.{arith}
 use borrow.Author.Needs.{needs}
-use Rattle.days.proofs.MarkLaws.{NoneUpTo, no-rows, one-row-more, all-rows}
-use Rattle.days.proofs.monthinfo.counts_in_months.Statement.{statement}
-use Rattle.days.proofs.monthinfo.counts_in_months.Tie as tie
+use Rattle.days.specs.Stands.{NoEntry}
+use Rattle.days.proofs.MarkLaws.{no-rows, one-row-more, all-rows}
+use Rattle.days.proofs.monthinfo.has_entry.Statement.{statement}
+use Rattle.days.proofs.monthinfo.has_entry.Tie as tie
 
 abbrev Inv-loop : tie.InvT-loop
-Inv-loop byday weekday some₀ row₀ some row = (48 ≤ row) × (row ≤ 59) × (some ≡ false → NoneUpTo byday weekday row)
+Inv-loop byday weekday from to some₀ row₀ some row = (from ≤ row) × (row ≤ to) × (some ≡ false → NoEntry byday weekday from row)
 
 abbrev μ-loop : tie.MeasureT-loop
-μ-loop byday weekday some₀ row₀ some row = 59 - row
+μ-loop byday weekday from to some₀ row₀ some row = to - row
 
 loop-holds : tie.Need-loop-holds Inv-loop μ-loop
-loop-holds c = (omega arith, omega arith, λ e. no-rows (c .args .byday .now) (c .args .weekday))
+loop-holds c = (omega arith, omega arith, λ e. no-rows (c .args .byday .now) (c .args .weekday) (c .args .from))
 
 mul-some : tie.Need-mul-some Inv-loop μ-loop
 mul-some c = search needs
@@ -37,16 +38,16 @@ loop-again : tie.Need-loop-again Inv-loop μ-loop
 loop-again c =
     let a = c .before .before .before .args in
     let l = c .before .before .loop in
-    (omega arith, omega arith, one-row-more (a .byday .now) (a .weekday) (l .row) (l .some) (l .inv .2))
+    (omega arith, omega arith, one-row-more (a .byday .now) (a .weekday) (a .from) (l .row) (l .some) (l .inv .2))
 
 returns : tie.Need-returns Inv-loop μ-loop
 returns c =
     let a = c .before .before .args in
     let l = c .before .loop in
-    λ e. all-rows (a .byday .now) (a .weekday) (l .row) (omega arith) (l .inv .2 e)
+    λ e. all-rows (a .byday .now) (a .weekday) (a .from) (l .row) (a .to) (omega arith) (l .inv .2 e)
 
-pub counts-in-months-spec : {M : Type 1} → statement M
-counts-in-months-spec =
+pub has-entry-spec : {M : Type 1} → statement M
+has-entry-spec =
     tie.close
     (tie.spec
     Inv-loop

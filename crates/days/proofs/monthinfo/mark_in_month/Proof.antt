@@ -1,4 +1,4 @@
--- `days::monthinfo::mark_weekday` meets its contract.
+-- `days::monthinfo::mark_in_month` meets its contract.
 -- Assumes nothing.
 use Prim.Native.Nat.{_+_, _-_, _%_, _<_}
 use mathlib.Core.Path.{_≡_, sym, ap, _∙_}
@@ -11,8 +11,8 @@ use Rattle.days.specs.Stands.{standAt, weekLater, Marked}
 use Rattle.days.proofs.Rows.{days-high}
 use Rattle.days.proofs.StandLaws.{stand-first, stand-next, InMonth, in-month, passes-at}
 use Rattle.days.proofs.MarkLaws.{none-marked, one-marked, all-marked}
-use Rattle.days.proofs.monthinfo.mark_weekday.Statement.{statement}
-use Rattle.days.proofs.monthinfo.mark_weekday.Tie as tie
+use Rattle.days.proofs.monthinfo.mark_in_month.Statement.{statement}
+use Rattle.days.proofs.monthinfo.mark_in_month.Tie as tie
 
 abbrev Inv-loop : tie.InvT-loop
 Inv-loop year byday weekday mask₀ end place₀ at₀ mask place at =
@@ -90,8 +90,8 @@ returns c =
     let e = c .before .before .before .places-of .ensures in
     all-marked (nthAt false (a .year) (a .byday .now)) (a .year .first) (a .weekday) (a .mask .now) (daysOf (a .year .long) + 7) (l .place) (l .mask) (omega arith) (omega arith) (l .inv .1) (l .inv .3)
 
-pub mark-weekday-spec : {M : Type 1} → statement M
-mark-weekday-spec =
+pub mark-in-month-spec : {M : Type 1} → statement M
+mark-in-month-spec =
     tie.close
     (tie.spec
     Inv-loop
