@@ -1,4 +1,4 @@
-# Reads list.d/refusals, then three lines: the words given to the program, the user's own, and the answer.
+# Reads list.d/refusals, and with part=answer three lines: the words given to the program, the user's own, and the answer.
 # Writes the answer for people.
 
 BEGIN {
@@ -11,7 +11,7 @@ BEGIN {
     ending["limited"] = "stopped: the moves allowed are used up"
 }
 
-FILENAME != "-" && FILENAME != "" {
+part != "answer" {
     number = $1
     sub(/^[0-9]+ /, "")
     meaning[number] = $0
@@ -20,7 +20,7 @@ FILENAME != "-" && FILENAME != "" {
 
 ++lines_read == 1 { line = $0; next }
 lines_read == 2 { split($0, said, " "); next }
-$1 == "bad" { fail(bad_word($2), 2) }
+$1 == "bad" { fail("can't take " what_is_bad($2), 2) }
 $1 == "refused" { fail("refused " $2 ": " meaning[$2], 1) }
 { tell_instants(); tell_stop() }
 
@@ -30,13 +30,11 @@ function fail(text, status) {
 }
 
 # The program says where in its line the bad word begins. At the line's end a word is missing.
-function bad_word(place,    before) {
-    if (place >= 65536) return "the rule is longer than 65,536 bytes"
-    if (place < length(line)) {
-        before = split(substr(line, 1, place), words_before, " ")
-        return "can't take '" said[before + 1] "'; ./list --help says which words there are"
-    }
-    return "can't do without " ((" " line) ~ / freq=/ ? "start=" : "freq=") "; ./list --help says more"
+function what_is_bad(place,    before) {
+    if (place >= 65536) return "a rule of more than 65,536 bytes"
+    if (place >= length(line)) return "a rule without " ((" " line) ~ / freq=/ ? "start=" : "freq=")
+    before = split(substr(line, 1, place), words_before, " ")
+    return "'" said[before + 1] "'"
 }
 
 function tell_instants(    i) {

@@ -20,6 +20,7 @@ BEGIN {
 }
 
 END {
+    if (line == "") refuse("a rule without words")
     if (bad) exit 2
     print line
     print said
@@ -29,15 +30,15 @@ function take(word,    at, key, value) {
     at = index(word, "=")
     key = substr(word, 1, at - 1)
     value = turned(tolower(key), substr(word, at + 1), key ~ /[A-Z]/)
-    if (at == 0) refuse(word, "words are key=value")
-    if (value == "" && at < length(word)) refuse(word, "a time is 2024-02-28T05:00:00Z (Z: it is UTC), a date 2024-02-28, from 1970 on")
+    if (at == 0) refuse("'" word "'; a word is key=value")
+    if (value == "" && at < length(word)) refuse("'" word "'; a time is 2024-02-28T05:00:00Z (UTC), a date 2024-02-28, from 1970 on")
     line = line (line == "" ? "" : " ") tolower(key) "=" value
     said = said (said == "" ? "" : " ") word
 }
 
 # Only the first bad word is told.
-function refuse(word, why) {
-    if (!bad) print "list: can't take '" word "': " why "; ./list --help says more" > "/dev/stderr"
+function refuse(text) {
+    if (!bad) print "list: can't take " text > "/dev/stderr"
     bad = 1
 }
 
