@@ -92,28 +92,46 @@ def off_the_grid(rule, instant):
     return (instant // unit - rule.start // unit) % rule.interval != 0
 
 
+def places(entries):
+    return frozenset().union(*(LISTED_OTHERWISE[entry][1] for entry in entries))
+
+
+INSTANTS_FROM_A_DIFFERENCE = 4
+
+
 class Explainer:
     """Says which entry explains a difference: the Rust, mended where the entry says, has to list what we list."""
 
     def __init__(self, mended):
         self.mended = mended
+        self.both_ways = 0
 
     def mends(self, pair, entries):
         """Whether the Rust, mended in the places of these entries, lists what we list, past the first difference."""
-        places = tuple(sorted(set().union(*(LISTED_OTHERWISE[entry][1] for entry in entries))))
+        line = pair.rust_line
+        if not pair.deep:
+            before = sum(instant < pair.difference for instant in pair.ours.instants)
+            line += f" max={before + INSTANTS_FROM_A_DIFFERENCE}"
         for words in ("", " limited=0"):
-            listing = rust_listing(pair.rule, self.mended.ask(pair.rust_line + words, places))
+            listing = rust_listing(pair.rule, self.mended.ask(line + words, places(entries)))
             if listing is None or first_difference(pair.ours, listing) is not None:
                 return False
             if listing.last >= pair.difference:
                 return True
         return False
 
+    def alone(self, pair, entries):
+        """Whether the Rust, mended in every other place, answers as it does without. Asked of the deep ones."""
+        if not pair.deep:
+            return True
+        self.both_ways += 1
+        return self.mended.ask(pair.rust_line, places(LISTED_OTHERWISE) - places(entries)) == pair.rust_answer
+
     def entry(self, pair):
         """The entry that explains a difference, or nothing."""
         rules = LISTED_OTHERWISE.items()
         found = [e for e, (applies, _) in rules if applies(pair.rule, pair.ours, pair.theirs, pair.difference)]
-        if not found or not self.mends(pair, found):
+        if not found or not self.mends(pair, found) or not self.alone(pair, found):
             return None
         if len(found) == 1:
             return found[0]

@@ -8,10 +8,10 @@ from programs import SLOW, ask
 ROOM = 64
 # moves by frequency: enough for the whole range, or for the Rust's rounds, where a move is cheap
 DEEP_BUDGET = (10000, 100000, 100000, 100000, 20000, 5000, 2000)
-BUDGET_OF_MOVES = (250, 1500, 3000, 3000, 1000, 300, 100)
+BUDGET_OF_MOVES = (500, 4000, 10000, 10000, 5000, 2000, 200)
 FREQUENCIES = ("YEARLY", "MONTHLY", "WEEKLY", "DAILY", "HOURLY", "MINUTELY", "SECONDLY")
-MODEL_ONE_IN = 100  # of the rules on which the two agree
-MODEL_OF_AN_ENTRY = 100
+MODEL_ONE_IN = 500  # of the rules on which the two agree
+MODEL_OF_AN_ENTRY = 50
 PUBLIC_OF_A_RUN = 100
 
 
@@ -55,6 +55,7 @@ class Judge:
         self.explainer = entries.Explainer(mended)
         self.total = 0
         self.classes, self.explained, self.with_model, self.public = Counter(), Counter(), Counter(), 0
+        self.parts = Counter()  # of the rules whose listings were compared
         self.unlisted = []
 
     def count(self, pair, name):
@@ -106,6 +107,7 @@ class Judge:
             self.count(pair, "we alone refuse: the Rust lists what the entry says")
 
     def judge_listings(self, pair, counted=True):
+        self.count_parts(pair)
         if pair.difference is not None:
             return self.judge_difference(pair, counted)
         if not self.model_agrees(pair, self.total % MODEL_ONE_IN == 0, "agreeing"):
@@ -113,6 +115,16 @@ class Judge:
         if counted:
             self.count_agreeing(pair)
         return True
+
+    def count_parts(self, pair):
+        """Which parts the rules have whose listings are compared over some stretch."""
+        rule = pair.rule
+        if pair.ours.stop == BUDGET and not pair.ours.instants and not pair.deep:
+            return
+        self.parts.update(key.upper() for key in (*model.LISTS, "count", "until") if getattr(rule, key) not in (None, []))
+        self.parts["neither COUNT nor UNTIL"] += rule.count is None and rule.until is None
+        self.parts["listings compared"] += 1
+        self.parts["instants compared"] += len(pair.theirs.instants)
 
     def count_agreeing(self, pair):
         if pair.theirs.stop == GAVE_UP:
@@ -140,7 +152,7 @@ class Judge:
         entry = self.explainer.entry(pair)
         if entry is None:
             return self.wrong(pair, "no entry explains it")
-        if not self.model_agrees(pair, pair.deep or self.explained[entry] < MODEL_OF_AN_ENTRY, entry):
+        if not self.model_agrees(pair, self.explained[entry] < MODEL_OF_AN_ENTRY, entry):
             return self.wrong(pair, "the model lists otherwise")
         self.explained[entry] += 1
         if counted:
@@ -165,10 +177,12 @@ class Judge:
             counts = [self.classes[name, freq] for freq in range(7)]
             print(f"{sum(counts):8}  {name}: " + ", ".join(f"{f} {n}" for f, n in zip(FREQUENCIES, counts) if n))
         print(f"{self.total:8}  rules in all")
+        print("compared: " + ", ".join(f"{part} {n}" for part, n in sorted(self.parts.items())))
         print("entry, and how many rules it explains:")
         for entry in sorted(entries.named_entries() | self.explained.keys(), key=lambda e: -self.explained[e]):
             print(f"{self.explained[entry]:8}  {entry}")
         print(f"{sum(self.with_model.values()):8}  of our answers held against the model, {self.with_model['agreeing']} where the two agree")
+        print(f"{self.explainer.both_ways:8}  of the differing listings held against the Rust mended in every other place")
         print(f"{len(self.unlisted):8}  disagreements that no entry explains")
         for line, why, ours, theirs in sorted(self.unlisted, key=lambda w: (len(w[0].split()), len(w[0])))[:20]:
             print(f"{line}\n  why   {why}\n  ours  {' | '.join(ours)[:400]}\n  Rust  {theirs[:400]}")

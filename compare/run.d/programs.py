@@ -58,7 +58,7 @@ class Mended:
 
     def start(self, places):
         self.path = self.path or self.copy()
-        environment = {**os.environ, "MENDED": " ".join(places)}
+        environment = {**os.environ, "MENDED": " ".join(sorted(places))}
         return subprocess.Popen([self.path], stdin=subprocess.PIPE, stdout=subprocess.PIPE, text=True, env=environment)
 
     def ask(self, line, places):
