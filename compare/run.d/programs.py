@@ -13,6 +13,19 @@ SECONDS_FOR_A_GROUP = 60
 SECONDS_FOR_A_LINE = 20
 
 
+def program(variable, path, how):
+    found = Path(os.environ.get(variable, path))
+    if not found.is_file():
+        sys.exit(f"no program {found}; make it by {how}, or name it in {variable}")
+    return str(found.resolve())
+
+
+def both_programs():
+    """The line program and the oracle."""
+    lines = program("LINE_PROGRAM", COMPARE.parent / "target/bin/lines", "rt check lines")
+    return lines, program("ORACLE", COMPARE / "target/rrule/target/release/oracle", "compare/build")
+
+
 def load(name):
     """A program of compare/ as a module."""
     sys.dont_write_bytecode = True
