@@ -106,19 +106,36 @@ class Explainer:
         self.mended = mended
         self.both_ways = 0
 
-    def mends(self, pair, entries):
-        """Whether the Rust, mended in the places of these entries, lists what we list, past the first difference."""
+    def mended_listing(self, pair, difference, entries):
+        """What the Rust lists, mended in the places of these entries; nothing where that stops before the difference."""
         line = pair.rust_line
         if not pair.deep:
-            before = sum(instant < pair.difference for instant in pair.ours.instants)
+            before = sum(instant < difference for instant in pair.ours.instants)
             line += f" max={before + INSTANTS_FROM_A_DIFFERENCE}"
         for words in ("", " limited=0"):
             listing = rust_listing(pair.rule, self.mended.ask(line + words, places(entries)))
-            if listing is None or first_difference(pair.ours, listing) is not None:
-                return False
-            if listing.last >= pair.difference:
-                return True
-        return False
+            if listing is None or listing.last >= difference:
+                return listing
+        return None
+
+    def mends(self, pair, entries):
+        listing = self.mended_listing(pair, pair.difference, entries)
+        return listing is not None and first_difference(pair.ours, listing) is None
+
+    def needed(self, pair):
+        """The entries that explain the first difference, then the next that is left, until none is; or nothing."""
+        found, theirs, difference = [], pair.theirs, pair.difference
+        while difference is not None:
+            rules = LISTED_OTHERWISE.items()
+            new = [e for e, (applies, _) in rules if e not in found and applies(pair.rule, pair.ours, theirs, difference)]
+            if not new:
+                return None
+            found += new
+            theirs = self.mended_listing(pair, difference, found)
+            if theirs is None:
+                return None
+            difference = first_difference(pair.ours, theirs)
+        return found
 
     def alone(self, pair, entries):
         """Whether the Rust, mended in every other place, answers as it does without. Asked of the deep ones."""
@@ -127,18 +144,15 @@ class Explainer:
         self.both_ways += 1
         return self.mended.ask(pair.rust_line, places(LISTED_OTHERWISE) - places(entries)) == pair.rust_answer
 
-    def entry(self, pair):
-        """The entry that explains a difference, or nothing."""
-        rules = LISTED_OTHERWISE.items()
-        found = [e for e, (applies, _) in rules if applies(pair.rule, pair.ours, pair.theirs, pair.difference)]
-        if not found or not self.mends(pair, found) or not self.alone(pair, found):
-            return None
-        if len(found) == 1:
-            return found[0]
-        if CARRY in found:
+    def entries(self, pair):
+        """The entries that explain how two listings differ; none where they don't."""
+        found = self.needed(pair)
+        if not found or not self.alone(pair, found):
+            return []
+        if CARRY in found and SKIPPED_DAY in found:
             strays = pair.difference in pair.theirs.instants and off_the_grid(pair.rule, pair.difference)
-            return CARRY if strays else SKIPPED_DAY
-        return next((e for e in found if self.mends(pair, [e])), " and ".join(found))
+            return [CARRY if strays else SKIPPED_DAY]
+        return next(([e] for e in found if len(found) > 1 and self.mends(pair, [e])), found)
 
 
 # Where the Rust gives up. It has looked at 99,999 periods without an instant: exact where each k is a round.

@@ -149,12 +149,12 @@ class Judge:
         self.explained[entries.PUBLIC] += 1
 
     def judge_difference(self, pair, counted):
-        entry = self.explainer.entry(pair)
-        if entry is None:
+        found = self.explainer.entries(pair)
+        if not found:
             return self.wrong(pair, "no entry explains it")
-        if not self.model_agrees(pair, self.explained[entry] < MODEL_OF_AN_ENTRY, entry):
+        if not self.model_agrees(pair, any(self.with_model[entry] < MODEL_OF_AN_ENTRY for entry in found), found[0]):
             return self.wrong(pair, "the model lists otherwise")
-        self.explained[entry] += 1
+        self.explained.update(found)
         if counted:
             self.count(pair, "listed otherwise, as an entry says")
         return True
