@@ -1,0 +1,86 @@
+-- Bytes that are read and written one after the other.
+-- Assumes nothing.
+use Prim.Native.Nat.{ℕ, zero, suc, _+_, _-_, _*_, _/_, _%_, _≤_, _<_}
+use mathlib.Core.Path.{_≡_, refl, sym, ap, _∙_}
+use mathlib.Core.Bool.{Bool, true, false, not, _&&_, _||_}
+use mathlib.Core.List.{List, [], _∷_, _++_, append-nil}
+use native.Mathlib.Omega.{arith}
+use native.Mathlib.Numerals.{add-one}
+use lib.Dec.{eqb, leb, ltb}
+use lib.ListN.{length, getD, set, take, drop, drop-of-length-le}
+use lib.Seq.{sets, sets-eq, drop-cons}
+use borrow.Author.Tests.{ltb-true, ltb-false, le-leb, lt-leb}
+use Rattle.panel.specs.Bytes.{two, four, eight, areFlags, flagByte, flagBytes}
+
+-- a list in two parts: the second is stored behind the first
+pub sets-append : {A : Type 0} (l : List A) (i : ℕ) (xs ys : List A) → sets l i (xs ++ ys) ≡ sets (sets l i xs) (i + length xs) ys
+sets-append l i [] ys = let z : i ≡ i + 0 = omega arith in ap (λ (k : ℕ). sets l k ys) z
+sets-append l i (x ∷ xs) ys =
+    let z : suc i + length xs ≡ i + suc (length xs) = omega arith in
+    sets-append (set l i x) (suc i) xs ys ∙ ap (λ (k : ℕ). sets (sets (set l i x) (suc i) xs) k ys) z
+
+-- the same with the place behind the first part at hand
+pub sets-behind : {A : Type 0} (l : List A) (i k : ℕ) (xs ys : List A) → i + length xs ≡ k → sets (sets l i xs) k ys ≡ sets l i (xs ++ ys)
+sets-behind l i k xs ys e = ap (λ (n : ℕ). sets (sets l i xs) n ys) (sym e) ∙ sym (sets-append l i xs ys)
+
+-- a list that is as long as the bytes is all that they hold
+pub sets-whole : (l xs : List ℕ) → length xs ≡ length l → sets l 0 xs ≡ xs
+sets-whole l xs e =
+    let h : length l ≤ 0 + length xs = omega arith in
+    sets-eq xs l 0 (omega arith) ∙ ap (λ (rest : List ℕ). xs ++ rest) (drop-of-length-le l h) ∙ append-nil xs
+
+pub length-two : (n : ℕ) → length (two n) ≡ 2
+unfolding two
+length-two n = refl
+
+pub length-four : (n : ℕ) → length (four n) ≡ 4
+unfolding four two
+length-four n = refl
+
+pub length-eight : (n : ℕ) → length (eight n) ≡ 8
+unfolding eight four two
+length-eight n = refl
+
+-- a number is written as its two halves
+pub four-halves : (l x y : List ℕ) (i n : ℕ) → x ≡ sets l i (two (n % 65536)) → y ≡ sets x (i + 2) (two (n / 65536)) → y ≡ sets l i (four n)
+unfolding four
+four-halves l x y i n e f = f ∙ ap (λ (a : List ℕ). sets a (i + 2) (two (n / 65536))) e ∙ sets-behind l i (i + 2) (two (n % 65536)) (two (n / 65536)) (ap (λ (k : ℕ). i + k) (length-two (n % 65536)))
+
+pub eight-halves : (l x y : List ℕ) (i n : ℕ) → x ≡ sets l i (four (n % 4294967296)) → y ≡ sets x (i + 4) (four (n / 4294967296)) → y ≡ sets l i (eight n)
+unfolding eight
+eight-halves l x y i n e f = f ∙ ap (λ (a : List ℕ). sets a (i + 4) (four (n / 4294967296))) e ∙ sets-behind l i (i + 4) (four (n % 4294967296)) (four (n / 4294967296)) (ap (λ (k : ℕ). i + k) (length-four (n % 4294967296)))
+
+-- a byte is no flag where it is above 1
+not-above : (b : ℕ) → not (ltb 1 b) ≡ leb b 1
+not-above b = go (ltb 1 b) refl
+  where
+    go : (t : Bool) → ltb 1 b ≡ t → not t ≡ leb b 1
+    go true e = sym (lt-leb b 1 (ltb-true 1 b e))
+    go false e = sym (le-leb b 1 (ltb-false 1 b e))
+
+pub flags-next : (strange : Bool) (bytes : List ℕ) (i : ℕ) → i < length bytes
+    → not strange && areFlags (drop i bytes) ≡ not (strange || ltb 1 (getD bytes i 0)) && areFlags (drop (i + 1) bytes)
+unfolding areFlags
+flags-next strange bytes i h = rw (add-one, drop-cons bytes i 0 h) (go strange)
+  where
+    go : (f : Bool) → not f && areFlags (getD bytes i 0 ∷ drop (suc i) bytes) ≡ not (f || ltb 1 (getD bytes i 0)) && areFlags (drop (suc i) bytes)
+    go true = refl
+    go false = ap (λ (t : Bool). t && areFlags (drop (suc i) bytes)) (sym (not-above (getD bytes i 0)))
+
+and-true : (b : Bool) → b && true ≡ b
+and-true true = refl
+and-true false = refl
+
+pub flags-done : (strange : Bool) (bytes : List ℕ) (i : ℕ) → length bytes ≤ i → not strange && areFlags (drop i bytes) ≡ not strange
+unfolding areFlags
+flags-done strange bytes i h = rw (drop-of-length-le bytes h) (and-true (not strange))
+
+-- one flag more is written; all are
+pub put-next : (bytes : List ℕ) (from i : ℕ) (set₀ : List Bool) → i < length set₀
+    → sets bytes (from + i) (flagBytes (drop i set₀)) ≡ sets (set bytes (from + i) (flagByte (getD set₀ i false))) (from + (i + 1)) (flagBytes (drop (i + 1) set₀))
+put-next bytes from i set₀ h =
+    let z : suc (from + i) ≡ from + (i + 1) = omega arith in
+    rw (add-one i, drop-cons set₀ i false h) (ap (λ (k : ℕ). sets (set bytes (from + i) (flagByte (getD set₀ i false))) k (flagBytes (drop (suc i) set₀))) (z ∙ ap (λ (k : ℕ). from + k) (add-one i)))
+
+pub put-done : (bytes : List ℕ) (from i : ℕ) (set₀ : List Bool) → length set₀ ≤ i → sets bytes (from + i) (flagBytes (drop i set₀)) ≡ bytes
+put-done bytes from i set₀ h = rw (drop-of-length-le set₀ h)

@@ -1,0 +1,43 @@
+-- `panel::cursor::put_cursor` meets its contract.
+-- Assumes nothing.
+use Rattle.panel.proofs.LayoutLaws.{cursor-put}
+use borrow.Author.Needs.{needs}
+use Rattle.panel.proofs.cursor.put_cursor.Statement.{statement}
+use Rattle.panel.proofs.cursor.put_cursor.Tie as tie
+
+state-number-requires : tie.Need-state-number-requires
+state-number-requires c κs = search needs
+
+put-1-requires : tie.Need-put-1-requires
+put-1-requires c κs = search needs
+
+put-8-requires : tie.Need-put-8-requires
+put-8-requires c κs = search needs
+
+cast-put-4 : tie.Need-cast-put-4
+cast-put-4 c = search needs
+
+put-4-requires : tie.Need-put-4-requires
+put-4-requires c κs = search needs
+
+put-8-requires-2 : tie.Need-put-8-requires-2
+put-8-requires-2 c κs = search needs
+
+same-length : tie.Need-same-length
+same-length c = search needs
+
+returns : tie.Need-returns
+returns c = cursor-put (c .before .before .before .before .before .before .before .before .before .before .before .before .before .before .before .before .before .before .before .args .cursor) _ (c .before .before .before .before .before .before .before .before .before .before .before .before .before .before .before .before .before .before .before .args .bytes .now) _ _ _ _ (c .before .before .before .before .before .before .before .before .before .before .before .before .before .before .before .before .before .before .before .pre) (c .before .before .before .before .before .before .before .before .before .before .before .before .before .before .before .before .state-number .ensures) (c .before .before .before .before .before .before .before .before .before .before .before .before .before .before .before .put-1 .ensures) (c .before .before .before .before .before .before .before .before .before .before .before .put-8 .ensures) (c .before .before .before .before .before .before .put-4 .ensures) (c .before .before .put-82 .ensures)
+
+pub put-cursor-spec : {M : Type 1} → statement M
+put-cursor-spec =
+    tie.close
+    (tie.spec
+    state-number-requires
+    put-1-requires
+    put-8-requires
+    cast-put-4
+    put-4-requires
+    put-8-requires-2
+    same-length
+    returns)

@@ -1,0 +1,24 @@
+-- `panel::numbers::put_8` meets its contract.
+-- Assumes nothing.
+use Rattle.panel.proofs.ByteLaws.{eight-halves}
+use borrow.Author.Needs.{needs}
+use Rattle.panel.proofs.numbers.put_8.Statement.{statement}
+use Rattle.panel.proofs.numbers.put_8.Tie as tie
+
+put-4-requires : tie.Need-put-4-requires
+put-4-requires c κs = search needs
+
+add-put-4 : tie.Need-add-put-4
+add-put-4 c = search needs
+
+put-4-requires-2 : tie.Need-put-4-requires-2
+put-4-requires-2 c κs = search needs
+
+same-length : tie.Need-same-length
+same-length c = search needs
+
+returns : tie.Need-returns
+returns c = eight-halves _ _ _ _ _ (c .before .before .before .before .before .before .put-4 .ensures) (c .before .before .put-42 .ensures)
+
+pub put-8-spec : {M : Type 1} → statement M
+put-8-spec = tie.close (tie.spec put-4-requires add-put-4 put-4-requires-2 same-length returns)

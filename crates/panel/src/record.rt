@@ -1,0 +1,233 @@
+// A record as bytes: 26 bytes of numbers, then one byte for each flag of each set.
+use crate::flags::are_flags;
+use crate::flags::flags_12;
+use crate::flags::flags_24;
+use crate::flags::flags_60;
+use crate::flags::flags_62;
+use crate::flags::flags_106;
+use crate::flags::flags_732;
+use crate::flags::flags_749;
+use crate::flags::put_flags;
+use crate::numbers::put_1;
+use crate::numbers::put_2;
+use crate::numbers::put_4;
+use crate::numbers::put_8;
+use crate::numbers::read_2;
+use crate::numbers::read_4;
+use crate::numbers::read_8;
+use rule::rrule::Count;
+use rule::rrule::Frequency;
+use rule::rrule::Rule;
+use rule::rrule::Until;
+use rule::rrule::frequency_number;
+ghost use mathlib.Core.Path.{_≡_};
+ghost use Prim.Native.Nat.{_≤_};
+ghost use lib.ListN.{length};
+ghost use lib.Seq.{sets};
+ghost use Rattle.rule.specs.Filling.{frequency};
+ghost use Rattle.panel.specs.Layout.{countTag, countNumber, untilTag, untilNumber, countFrom, untilFrom, isTagged, headBytes, dayBytes, timeBytes, encodeRecord, recordIn, isRecordBytes};
+
+pub(crate) const RECORD_LENGTH: usize = 2563;
+
+fn frequency_of(number: u8) -> Frequency
+    ensures { λ r. ⌜ r ≡ frequency number ⌝ }
+{
+    if number == 0 {
+        return Frequency::Yearly;
+    }
+    if number == 1 {
+        return Frequency::Monthly;
+    }
+    if number == 2 {
+        return Frequency::Weekly;
+    }
+    if number == 3 {
+        return Frequency::Daily;
+    }
+    if number == 4 {
+        return Frequency::Hourly;
+    }
+    if number == 5 {
+        return Frequency::Minutely;
+    }
+    Frequency::Secondly
+}
+
+fn count_tag(count: Count) -> u8
+    ensures { λ r. ⌜ r ≡ countTag count ⌝ }
+{
+    match count {
+        Count::Absent => 0,
+        Count::Times(_) => 1,
+    }
+}
+
+fn count_number(count: Count) -> u32
+    ensures { λ r. ⌜ r ≡ countNumber count ⌝ }
+{
+    match count {
+        Count::Absent => 0,
+        Count::Times(n) => n,
+    }
+}
+
+fn until_tag(until: Until) -> u8
+    ensures { λ r. ⌜ r ≡ untilTag until ⌝ }
+{
+    match until {
+        Until::Absent => 0,
+        Until::At(_) => 1,
+    }
+}
+
+fn until_number(until: Until) -> u64
+    ensures { λ r. ⌜ r ≡ untilNumber until ⌝ }
+{
+    match until {
+        Until::Absent => 0,
+        Until::At(t) => t,
+    }
+}
+
+// COUNT and UNTIL from a tag and a number: absent where the tag is 0.
+pub(crate) fn count_from(tag: u8, number: u32) -> Count
+    ensures { λ r. ⌜ r ≡ countFrom tag number ⌝ }
+{
+    if tag == 0 {
+        Count::Absent
+    } else {
+        Count::Times(number)
+    }
+}
+
+pub(crate) fn until_from(tag: u8, number: u64) -> Until
+    ensures { λ r. ⌜ r ≡ untilFrom tag number ⌝ }
+{
+    if tag == 0 {
+        Until::Absent
+    } else {
+        Until::At(number)
+    }
+}
+
+// Whether a tag and its number are such as are written: absent has one form only.
+fn is_tagged(tag: u8, number: u64) -> bool
+    ensures { λ r. ⌜ r ≡ isTagged tag number ⌝ }
+{
+    (tag == 1) | ((tag == 0) & (number == 0))
+}
+
+pub(crate) fn is_record_bytes(bytes: &[u8]) -> bool
+    ensures { λ r. ⌜ r ≡ isRecordBytes (now (bytes .entry)) ⌝ }
+{
+    if bytes.len() != RECORD_LENGTH {
+        return false;
+    }
+    let count = read_4(bytes, 4);
+    let until = read_8(bytes, 9);
+    (bytes[0] <= 6)
+        & (is_tagged(bytes[3], count) & (is_tagged(bytes[8], until) & are_flags(bytes, 26)))
+}
+
+pub(crate) fn record_in(bytes: &[u8]) -> Rule
+    requires { ⌜ length (now bytes) ≡ 2563 ⌝ }
+    ensures { λ r. ⌜ r ≡ recordIn (now (bytes .entry)) ⌝ }
+{
+    let freq = frequency_of(bytes[0]);
+    let interval = read_2(bytes, 1) as u16;
+    let count = count_from(bytes[3], read_4(bytes, 4) as u32);
+    let until = until_from(bytes[8], read_8(bytes, 9));
+    let wkst = bytes[17];
+    let start = read_8(bytes, 18);
+    let bymonth = flags_12(bytes, 26);
+    let bymonthday = flags_62(bytes, 38);
+    let byyearday = flags_732(bytes, 100);
+    let byweekno = flags_106(bytes, 832);
+    let byday = flags_749(bytes, 938);
+    let byhour = flags_24(bytes, 1687);
+    let byminute = flags_60(bytes, 1711);
+    let bysecond = flags_60(bytes, 1771);
+    let bysetpos = flags_732(bytes, 1831);
+    Rule {
+        freq,
+        interval,
+        count,
+        until,
+        wkst,
+        start,
+        bymonth,
+        bymonthday,
+        byyearday,
+        byweekno,
+        byday,
+        byhour,
+        byminute,
+        bysecond,
+        bysetpos,
+    }
+}
+
+fn put_head(
+    freq: Frequency,
+    interval: u16,
+    count: Count,
+    until: Until,
+    wkst: u8,
+    start: u64,
+    bytes: &mut [u8],
+)
+    requires { ⌜ 26 ≤ length (now bytes) ⌝ }
+    ensures { λ r. ⌜ now (bytes .exit) ≡ sets (now (bytes .entry)) 0 (headBytes freq interval count until wkst start) ⌝ }
+{
+    put_1(bytes, 0, frequency_number(freq));
+    put_2(bytes, 1, interval as u32);
+    put_1(bytes, 3, count_tag(count));
+    put_4(bytes, 4, count_number(count) as u64);
+    put_1(bytes, 8, until_tag(until));
+    put_8(bytes, 9, until_number(until));
+    put_1(bytes, 17, wkst);
+    put_8(bytes, 18, start);
+}
+
+// Writes the sets of months, days and weeks.
+fn put_days(rule: Rule, bytes: &mut [u8])
+    requires { ⌜ 1687 ≤ length (now bytes) ⌝ }
+    ensures { λ r. ⌜ (now (bytes .exit) ≡ sets (now (bytes .entry)) 26 (dayBytes rule)) × (length (dayBytes rule) ≡ 1661) ⌝ }
+{
+    put_flags(&rule.bymonth, bytes, 26);
+    put_flags(&rule.bymonthday, bytes, 38);
+    put_flags(&rule.byyearday, bytes, 100);
+    put_flags(&rule.byweekno, bytes, 832);
+    put_flags(&rule.byday, bytes, 938);
+}
+
+// Writes the sets of hours, minutes and seconds, and the positions.
+fn put_times(rule: Rule, bytes: &mut [u8])
+    requires { ⌜ 2563 ≤ length (now bytes) ⌝ }
+    ensures { λ r. ⌜ (now (bytes .exit) ≡ sets (now (bytes .entry)) 1687 (timeBytes rule)) × (length (timeBytes rule) ≡ 876) ⌝ }
+{
+    put_flags(&rule.byhour, bytes, 1687);
+    put_flags(&rule.byminute, bytes, 1711);
+    put_flags(&rule.bysecond, bytes, 1771);
+    put_flags(&rule.bysetpos, bytes, 1831);
+}
+
+pub(crate) fn put_record(rule: Rule, bytes: &mut [u8])
+    requires { ⌜ length (now bytes) ≡ 2563 ⌝ }
+    ensures { λ r. ⌜ now (bytes .exit) ≡ encodeRecord rule ⌝ }
+{
+    let freq = rule.freq;
+    let count = rule.count;
+    let until = rule.until;
+    put_head(
+        freq,
+        rule.interval,
+        count,
+        until,
+        rule.wkst,
+        rule.start,
+        bytes,
+    );
+    put_days(rule, bytes);
+    put_times(rule, bytes);
+}
