@@ -6,14 +6,12 @@ use mathlib.Core.List.{List}
 use lib.Dec.{eqb}
 use lib.ListN.{length}
 use Rattle.calendar.specs.Calendar.{if_then_else_}
-use Rattle.machine.specs.declared.Fault.{Fault}
 use Rattle.machine.specs.declared.Stop.{Stop}
 use Rattle.machine.specs.declared.Cursor.{Cursor}
 use Rattle.machine.specs.declared.Answer.{Answer}
 use Rattle.machine.specs.Faults.{faultNumber}
 use Rattle.machine.specs.Calls.{Answered}
 use Rattle.rule.specs.declared.rrule.Verdict.{Verdict}
-use Rattle.rule.specs.declared.rrule.Checked.{Checked}
 use Rattle.rule.specs.declared.rrule.Rule.{Rule}
 use Rattle.rule.specs.Raw.{Raw}
 use Rattle.rule.specs.Refusals.{refusalNumber}

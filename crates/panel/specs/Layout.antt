@@ -1,8 +1,8 @@
 -- How a record and a cursor stand in bytes, and which bytes are one. The layout is this crate's own: callers keep the bytes as they are.
 -- Assumes nothing.
 use Prim.Native.Nat.{ℕ, _+_}
-use mathlib.Core.Bool.{Bool, true, false, _&&_, _||_}
-use mathlib.Core.List.{List, [], _∷_, _++_}
+use mathlib.Core.Bool.{Bool, _&&_, _||_}
+use mathlib.Core.List.{List, _∷_, _++_}
 use lib.Dec.{eqb, leb}
 use lib.ListN.{length, getD, drop}
 use Rattle.calendar.specs.Calendar.{if_then_else_}

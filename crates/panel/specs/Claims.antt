@@ -1,0 +1,53 @@
+-- What follows from the layout and from what the calls say. The proofs are in proofs/Theorems.
+-- Assumes nothing.
+use Prim.Native.Nat.{ℕ, _≤_, _<_}
+use mathlib.Core.Path.{_≡_}
+use mathlib.Core.Logic.{_⊎_}
+use mathlib.Core.List.{List}
+use lib.ListN.{getD}
+use Rattle.machine.specs.declared.Cursor.{Cursor}
+use Rattle.rule.specs.declared.rrule.Rule.{Rule}
+use Rattle.rule.specs.Raw.{Raw}
+use Rattle.rule.specs.Records.{Sized}
+use Rattle.panel.specs.Layout.{Decoded.holds, encodeRecord, decodeRecord, encodeCursor, decodeCursor}
+use Rattle.panel.specs.Edge.{checkSays, freshSays, shown, runSays}
+
+-- every byte is below 256: so it is with all that comes from C
+abbrev pub AreBytes : List ℕ → Type 0
+AreBytes bytes = (i : ℕ) → getD bytes i 0 < 256
+
+-- A record whose sets have their lengths, as every value of the type Rule has, is read back from the bytes that are written of it.
+abbrev pub RecordReadBack : Type 0
+RecordReadBack = (r : Rule) → Sized r → decodeRecord (encodeRecord r) ≡ holds r
+
+-- Bytes that hold a record are those that are written of it: a record has one form.
+abbrev pub RecordOneForm : Type 0
+RecordOneForm = (bytes : List ℕ) (r : Rule) → AreBytes bytes → decodeRecord bytes ≡ holds r → encodeRecord r ≡ bytes
+
+-- the same of a cursor
+abbrev pub CursorReadBack : Type 0
+CursorReadBack = (c : Cursor) → decodeCursor (encodeCursor c) ≡ holds c
+
+abbrev pub CursorOneForm : Type 0
+CursorOneForm = (bytes : List ℕ) (c : Cursor) → AreBytes bytes → decodeCursor bytes ≡ holds c → encodeCursor c ≡ bytes
+
+-- Only the numbers of the table are said, and a call that says one of a refusal leaves what was lent as it was.
+abbrev pub CheckNumbers : Type 0
+CheckNumbers = (w : Raw) (bytes : List ℕ) → (checkSays w bytes .number ≤ 9) ⊎ (checkSays w bytes .number ≡ 20)
+
+abbrev pub CheckRefusedLeaves : Type 0
+CheckRefusedLeaves = (w : Raw) (bytes : List ℕ) → 0 < checkSays w bytes .number → checkSays w bytes .bytes ≡ bytes
+
+abbrev pub FreshNumbers : Type 0
+FreshNumbers = (rulebytes cursorbytes : List ℕ) → (freshSays rulebytes cursorbytes .number ≡ 0) ⊎ ((freshSays rulebytes cursorbytes .number ≡ 20) ⊎ (freshSays rulebytes cursorbytes .number ≡ 21))
+
+abbrev pub FreshRefusedLeaves : Type 0
+FreshRefusedLeaves = (rulebytes cursorbytes : List ℕ) → 0 < freshSays rulebytes cursorbytes .number → freshSays rulebytes cursorbytes .bytes ≡ cursorbytes
+
+abbrev pub RunNumbers : Type 0
+RunNumbers = (rulebytes cursorbytes buffer : List ℕ) (m : ℕ)
+    → (runSays rulebytes cursorbytes buffer m .stop ≤ 2) ⊎ ((runSays rulebytes cursorbytes buffer m .stop ≡ 20) ⊎ (runSays rulebytes cursorbytes buffer m .stop ≡ 21))
+
+abbrev pub RunRefusedLeaves : Type 0
+RunRefusedLeaves = (rulebytes cursorbytes buffer : List ℕ) (m : ℕ) → 2 < runSays rulebytes cursorbytes buffer m .stop
+    → runSays rulebytes cursorbytes buffer m ≡ shown (runSays rulebytes cursorbytes buffer m .stop) cursorbytes buffer 0 0 0
