@@ -1,0 +1,327 @@
+/* Hands random rules, records, cursors and buffers to the library, and watches what comes back.
+ *
+ * usage: random_bytes SEED SECONDS [ROUNDS]        it ends after the seconds, or after the rounds where they are given
+ *
+ * Every lent piece of memory has its exact size, so that valgrind sees a step beyond it. Half of the records and cursors are
+ * good ones with some bytes changed, or cut, or longer; the others are good as they are, or nothing but noise.
+ */
+#include <inttypes.h>
+#include <stdio.h>
+#include <stdlib.h>
+#include <string.h>
+#include <time.h>
+
+#include "yomaveludge.h"
+
+enum { LISTS = 10, POOL = 256, SLOTS = 64, GUARDS = 4 };
+
+static const int lowest[LISTS] = {1, -31, -366, -53, -53, 0, 0, 0, 0, -366};
+static const int highest[LISTS] = {12, 31, 366, 53, 53, 6, 23, 59, 59, 366};
+
+static uint64_t state;
+static uint8_t pool[POOL][YOMAVELUDGE_RECORD_LENGTH];
+static uint8_t cursors[POOL][YOMAVELUDGE_CURSOR_LENGTH];
+static unsigned pooled;
+static uint64_t answers[3][256];
+static uint64_t instants;
+
+static uint64_t next_random(void)
+{
+    state += 0x9e3779b97f4a7c15u;
+    uint64_t z = state;
+    z = (z ^ (z >> 30)) * 0xbf58476d1ce4e5b9u;
+    z = (z ^ (z >> 27)) * 0x94d049bb133111ebu;
+    return z ^ (z >> 31);
+}
+
+static unsigned below(unsigned n)
+{
+    return (unsigned)(next_random() % n);
+}
+
+static void fail(const char *what, unsigned number)
+{
+    printf("FAULT: %s (%u)\n", what, number);
+    exit(1);
+}
+
+static void *lend(const void *bytes, size_t length)
+{
+    void *copy = malloc(length == 0 ? 1 : length);
+    if (copy == NULL) {
+        fail("no memory", 0);
+    }
+    memcpy(copy, bytes, length);
+    return copy;
+}
+
+static void add_noise(uint8_t *bytes, size_t length)
+{
+    for (size_t i = 0; i < length; i++) {
+        bytes[i] = (uint8_t)next_random();
+    }
+}
+
+/* Some bytes changed: most often to 0 or 1, so that it may still be good. */
+static void change(uint8_t *bytes, size_t length)
+{
+    for (unsigned times = 1 + below(4); times != 0; times--) {
+        size_t place = below(3) == 0 ? below(26) % length : below((unsigned)length);
+        bytes[place] = below(4) == 0 ? (uint8_t)next_random() : (uint8_t)below(2);
+    }
+}
+
+/* A list within its range and rising, most often; it returns the length. */
+static size_t random_list(unsigned which, int16_t *list)
+{
+    if (below(3) != 0) {
+        return 0;
+    }
+    size_t length = 0;
+    int span = highest[which] - lowest[which] + 1;
+    int value = lowest[which] + (int)below((unsigned)span);
+    while (length < 8 && value <= highest[which]) {
+        if (value != 0 || lowest[which] == 0) {
+            list[length++] = (int16_t)value;
+        }
+        value += 1 + (int)below((unsigned)span);
+    }
+    if (length != 0 && below(24) == 0) {
+        list[below((unsigned)length)] = (int16_t)next_random();
+    }
+    if (length != 0 && below(24) == 0) {
+        list[below((unsigned)length)] = list[below((unsigned)length)];
+    }
+    return length;
+}
+
+/* BYDAY's two lists: every, or an nth, with weekdays that rise; now and then both kinds. */
+static size_t random_days(int16_t *n, int16_t *weekday)
+{
+    size_t length = below(3) == 0 ? 1 + below(3) : 0;
+    int16_t nth = below(2) == 0 ? 0 : (int16_t)((int)below(11) - 5);
+    int16_t step = (int16_t)(below(9) == 0);
+    for (size_t i = 0; i < length; i++) {
+        n[i] = (int16_t)(nth + step * (int16_t)i);
+        weekday[i] = (int16_t)(2 * i + below(2));
+    }
+    return length;
+}
+
+/* A call of the check; a record that it accepts goes into the pool. */
+static void try_check(void)
+{
+    int16_t lists[LISTS][8] = {{0}};
+    size_t lengths[LISTS];
+    int16_t *lent[LISTS];
+    for (unsigned i = 0; i < LISTS; i++) {
+        lengths[i] = random_list(i, lists[i]);
+    }
+    lengths[4] = random_days(lists[4], lists[5]);
+    lengths[5] = below(40) == 0 ? below(9) : lengths[4];
+    for (unsigned i = 0; i < LISTS; i++) {
+        lent[i] = lend(lists[i], lengths[i] * sizeof(int16_t));
+    }
+    size_t length = below(20) == 0 ? below(6000) : YOMAVELUDGE_RECORD_LENGTH;
+    uint8_t before[6000];
+    add_noise(before, length);
+    uint8_t *record = lend(before, length);
+    uint64_t start = below(30) == 0 ? next_random() : next_random() % 253402300800u;
+    uint64_t until = below(30) == 0 ? next_random() : start + next_random() % 1000000000u;
+    uint8_t answer = yomaveludge_check(
+        (uint8_t)below(below(30) == 0 ? 256 : 7), (uint16_t)below(below(9) == 0 ? 65536 : 5), (uint8_t)below(3), below(99),
+        (uint8_t)below(3), until, (uint8_t)below(below(30) == 0 ? 256 : 7), start, lent[0], lengths[0], lent[1], lengths[1],
+        lent[2], lengths[2], lent[3], lengths[3], lent[4], lengths[4], lent[5], lengths[5], lent[6], lengths[6], lent[7],
+        lengths[7], lent[8], lengths[8], lent[9], lengths[9], record, length);
+    answers[0][answer]++;
+    if (answer > 9 && answer != 20) {
+        fail("check: no such answer", answer);
+    }
+    if ((answer == 20) != (length != YOMAVELUDGE_RECORD_LENGTH)) {
+        fail("check: 20 is for the length alone", answer);
+    }
+    if (answer != 0 && memcmp(record, before, length) != 0) {
+        fail("check: refused, and the bytes are changed", answer);
+    }
+    if (answer == 0) {
+        memcpy(pool[pooled % POOL], record, length);
+        if (yomaveludge_fresh(record, length, cursors[pooled % POOL], YOMAVELUDGE_CURSOR_LENGTH) != 0) {
+            fail("fresh: a checked record is refused", 0);
+        }
+        pooled++;
+    }
+    free(record);
+    for (unsigned i = 0; i < LISTS; i++) {
+        free(lent[i]);
+    }
+}
+
+/* A record's bytes and their length: good, changed, cut or noise. `kind` is 0 where they are good. */
+static size_t random_record(uint8_t *bytes, unsigned which, unsigned *kind)
+{
+    *kind = below(8) < 5 ? 0 : 1 + below(3);
+    memcpy(bytes, pool[which], YOMAVELUDGE_RECORD_LENGTH);
+    if (*kind == 1) {
+        change(bytes, YOMAVELUDGE_RECORD_LENGTH);
+    }
+    if (*kind == 2) {
+        return below(YOMAVELUDGE_RECORD_LENGTH);
+    }
+    if (*kind == 3) {
+        add_noise(bytes, YOMAVELUDGE_RECORD_LENGTH);
+    }
+    return YOMAVELUDGE_RECORD_LENGTH;
+}
+
+static size_t random_cursor(uint8_t *bytes, unsigned which, unsigned *kind)
+{
+    *kind = below(8) < 5 ? 0 : 1 + below(3);
+    memcpy(bytes, cursors[which], YOMAVELUDGE_CURSOR_LENGTH);
+    if (*kind == 1) {
+        change(bytes, YOMAVELUDGE_CURSOR_LENGTH);
+    }
+    if (*kind == 2) {
+        return below(YOMAVELUDGE_CURSOR_LENGTH);
+    }
+    if (*kind == 3) {
+        add_noise(bytes, YOMAVELUDGE_CURSOR_LENGTH);
+    }
+    return YOMAVELUDGE_CURSOR_LENGTH;
+}
+
+static void try_fresh(unsigned which)
+{
+    uint8_t bytes[YOMAVELUDGE_RECORD_LENGTH];
+    uint8_t before[64];
+    unsigned kind;
+    size_t length = random_record(bytes, which, &kind);
+    size_t room = below(4) == 0 ? below(64) : YOMAVELUDGE_CURSOR_LENGTH;
+    add_noise(before, room);
+    uint8_t *record = lend(bytes, length);
+    uint8_t *cursor = lend(before, room);
+    uint8_t answer = yomaveludge_fresh(record, length, cursor, room);
+    answers[1][answer]++;
+    if (answer != 0 && answer != 20 && answer != 21) {
+        fail("fresh: no such answer", answer);
+    }
+    if (kind == 0 && answer != (room == YOMAVELUDGE_CURSOR_LENGTH ? 0 : 21)) {
+        fail("fresh: a good record", answer);
+    }
+    if (kind > 1 && answer != 20) {
+        fail("fresh: cut or noise is taken", answer);
+    }
+    if (answer != 0 && memcmp(cursor, before, room) != 0) {
+        fail("fresh: refused, and the bytes are changed", answer);
+    }
+    if (memcmp(record, bytes, length) != 0) {
+        fail("fresh: the record is changed", answer);
+    }
+    free(record);
+    free(cursor);
+}
+
+/* What a run that is not refused keeps to. */
+static void judge_run(
+    uint8_t answer, const uint64_t *buffer, const uint64_t *before, size_t slots, uint32_t moves, uint32_t made, size_t handed,
+    uint8_t cause)
+{
+    if (handed > slots || made > moves) {
+        fail("run: more than was lent", answer);
+    }
+    if ((answer == 0 && handed != slots) || (answer == 1 && made != moves)) {
+        fail("run: stopped for no reason", answer);
+    }
+    if ((answer == 2) != (cause != 0) || cause > 5) {
+        fail("run: the cause", cause);
+    }
+    for (size_t i = 0; i < handed; i++) {
+        if (buffer[i] > 253402300799u || (i != 0 && buffer[i] <= buffer[i - 1])) {
+            fail("run: the instants", answer);
+        }
+    }
+    if (memcmp(buffer + handed, before + handed, (slots - handed) * sizeof(uint64_t)) != 0) {
+        fail("run: slots past those handed out", answer);
+    }
+    instants += handed;
+}
+
+/* What is asked of every run: only known answers, and nothing touched where it is refused. */
+static void try_run(unsigned which)
+{
+    uint8_t bytes[YOMAVELUDGE_RECORD_LENGTH];
+    uint8_t from[YOMAVELUDGE_CURSOR_LENGTH];
+    uint64_t before[SLOTS + GUARDS];
+    unsigned kind;
+    unsigned of;
+    size_t length = random_record(bytes, which, &kind);
+    size_t size = random_cursor(from, which, &of);
+    size_t slots = below(SLOTS + 1);
+    add_noise((uint8_t *)before, sizeof before);
+    uint8_t *record = lend(bytes, length);
+    uint8_t *cursor = lend(from, size);
+    uint64_t *buffer = lend(before, (slots + GUARDS) * sizeof(uint64_t));
+    uint32_t moves = below(24);
+    uint32_t made = 77;
+    size_t handed = 77;
+    uint8_t cause = 77;
+    uint8_t answer = yomaveludge_run(record, length, cursor, size, buffer, slots, moves, &made, &handed, &cause);
+    answers[2][answer]++;
+    if (answer > 2 && answer != 20 && answer != 21) {
+        fail("run: no such answer", answer);
+    }
+    if ((kind == 0 && of == 0) != (answer <= 2) && kind != 1 && of != 1 && of != 3) {
+        fail("run: good is refused, or bad is taken", answer);
+    }
+    if (memcmp(record, bytes, length) != 0 || memcmp(buffer + slots, before + slots, GUARDS * sizeof(uint64_t)) != 0) {
+        fail("run: what wasn't lent for writing is changed", answer);
+    }
+    if (answer <= 2) {
+        judge_run(answer, buffer, before, slots, moves, made, handed, cause);
+        if (kind == 0) {
+            memcpy(cursors[which], cursor, size);
+        }
+    } else if (memcmp(cursor, from, size) != 0 || memcmp(buffer, before, slots * sizeof(uint64_t)) != 0 || made + handed + cause != 0) {
+        fail("run: refused, and something is changed", answer);
+    }
+    free(record);
+    free(cursor);
+    free(buffer);
+}
+
+static void print_answers(const char *name, unsigned which)
+{
+    printf("%s:", name);
+    for (unsigned i = 0; i < 256; i++) {
+        if (answers[which][i] != 0) {
+            printf(" %u x %" PRIu64, i, answers[which][i]);
+        }
+    }
+    printf("\n");
+}
+
+int main(int argc, char **argv)
+{
+    if (argc < 3) {
+        fprintf(stderr, "usage: random_bytes SEED SECONDS [ROUNDS]\n");
+        return 2;
+    }
+    state = strtoull(argv[1], NULL, 10);
+    time_t end = time(NULL) + (time_t)strtoull(argv[2], NULL, 10);
+    uint64_t rounds = argc > 3 ? strtoull(argv[3], NULL, 10) : UINT64_MAX;
+    uint64_t made = 0;
+    while (made < rounds && time(NULL) < end) {
+        try_check();
+        for (unsigned calls = pooled == 0 ? 0 : 4; calls != 0; calls--) {
+            unsigned which = below(pooled < POOL ? pooled : POOL);
+            try_fresh(which);
+            try_run(which);
+            try_run(which);
+        }
+        made++;
+    }
+    printf("seed %s: %" PRIu64 " rounds, %" PRIu64 " instants, no fault\n", argv[1], made, instants);
+    print_answers("check", 0);
+    print_answers("fresh", 1);
+    print_answers("run", 2);
+    return 0;
+}

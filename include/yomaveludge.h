@@ -1,0 +1,135 @@
+/* The due instants of a calendar rule, for C.
+ *
+ * Link with libpanel.a, which `rt staticlib panel` writes to target/staticlib/ (x86-64).
+ *
+ * An instant is a count of UTC seconds since 1970-01-01T00:00:00Z, from 0 to 253402300799 (9999-12-31T23:59:59Z).
+ * Weekdays are 0 to 6, Monday first.
+ *
+ * yomaveludge_check makes a record of a rule, yomaveludge_fresh the first cursor of a record, and yomaveludge_run lists
+ * from a cursor on. A record and a cursor are bytes. Keep them, copy them, store them; what stands where in them is not
+ * for callers, and may change with the library. Any bytes may be handed over: what no call has written is refused.
+ *
+ * What is asked of the caller, and of nothing else: each pointer is not NULL, is aligned for its type and reaches as many
+ * elements as the length beside it says (one where there is no length), also where that is 0; and what a call may write
+ * overlaps nothing else that is handed to it. Calls share nothing, so they may be made from many threads.
+ *
+ * Every call returns. Every promise below is proved of the code, for every input, and says each byte and slot to the last.
+ */
+#ifndef YOMAVELUDGE_H
+#define YOMAVELUDGE_H
+
+#include <stddef.h>
+#include <stdint.h>
+
+#ifdef __cplusplus
+extern "C" {
+#endif
+
+/* The lengths of a record and of a cursor, in bytes. */
+#define YOMAVELUDGE_RECORD_LENGTH 2563
+#define YOMAVELUDGE_CURSOR_LENGTH 21
+
+/* Frequencies. */
+enum {
+    YOMAVELUDGE_YEARLY = 0,
+    YOMAVELUDGE_MONTHLY = 1,
+    YOMAVELUDGE_WEEKLY = 2,
+    YOMAVELUDGE_DAILY = 3,
+    YOMAVELUDGE_HOURLY = 4,
+    YOMAVELUDGE_MINUTELY = 5,
+    YOMAVELUDGE_SECONDLY = 6
+};
+
+/* What yomaveludge_check and yomaveludge_fresh answer where they refuse nothing. */
+#define YOMAVELUDGE_ACCEPTED 0
+
+/* Refusals. The lowest number that applies is given. A refused call leaves every byte and slot as it was. */
+enum {
+    YOMAVELUDGE_FREQUENCY_ABOVE = 1,  /* the frequency is above 6 */
+    YOMAVELUDGE_WEEK_START_ABOVE = 2, /* the week start is above 6 */
+    YOMAVELUDGE_START_OUT = 3,        /* the start is out of range */
+    YOMAVELUDGE_UNTIL_OUT = 4,        /* UNTIL is out of range */
+    YOMAVELUDGE_ENTRY_OUT = 5,        /* a list entry is outside its range, or BYDAY's two lists differ in length */
+    YOMAVELUDGE_NOT_RISING = 6,       /* a list doesn't rise strictly */
+    YOMAVELUDGE_MIXED_DAYS = 7,       /* BYDAY has entries with n = 0 and with n not 0 */
+    YOMAVELUDGE_NTH_MISPLACED = 8,    /* n not 0 in BYDAY, with BYWEEKNO or a frequency neither YEARLY nor MONTHLY */
+    YOMAVELUDGE_POSITIONS_ALONE = 9,  /* BYSETPOS, and every other list empty */
+    YOMAVELUDGE_BAD_RECORD = 20,      /* the bytes are no record that an accepted check yields, or have another length */
+    YOMAVELUDGE_BAD_CURSOR = 21       /* the bytes are no cursor that is well formed for the record, or have another length */
+};
+
+/* Why a run has stopped, where it isn't refused. */
+enum {
+    YOMAVELUDGE_MORE = 0,    /* the buffer is full */
+    YOMAVELUDGE_LIMITED = 1, /* every move allowed is made; the next call goes on from there */
+    YOMAVELUDGE_ENDED = 2    /* the listing is at its end: see the cause */
+};
+
+/* Why a listing is at its end. */
+enum {
+    YOMAVELUDGE_RUNNING = 0,     /* it isn't */
+    YOMAVELUDGE_BY_COUNT = 1,    /* COUNT instants were handed out */
+    YOMAVELUDGE_BY_INTERVAL = 2, /* INTERVAL is 0 */
+    YOMAVELUDGE_BY_UNTIL = 3,    /* the next one is after UNTIL */
+    YOMAVELUDGE_BY_NO_TICK = 4,  /* no later period can have one, however far the calendar runs */
+    YOMAVELUDGE_BY_RANGE = 5     /* the next period begins after 9999 */
+};
+
+/* The check of a rule.
+ *
+ *   counted, count   COUNT: absent where counted is 0, else count
+ *   bounded, until   UNTIL: absent where bounded is 0, else the instant until
+ *   the lists        BYMONTH 1..12; BYMONTHDAY -31..-1 and 1..31; BYYEARDAY -366..-1 and 1..366; BYWEEKNO -53..-1 and
+ *                    1..53; BYDAY as two lists side by side, n (-53..53, 0 for every) and weekday (0..6); BYHOUR 0..23;
+ *                    BYMINUTE and BYSECOND 0..59; BYSETPOS -366..-1 and 1..366. Each may be empty, and rises strictly;
+ *                    BYDAY by n, then weekday.
+ *
+ * Promise: it answers 20 where record_length isn't YOMAVELUDGE_RECORD_LENGTH; else the lowest of 1 to 9 that applies; else
+ * 0. With 0 the record's bytes are the rule, filled in from its start; with any other number they are as they were.
+ */
+uint8_t yomaveludge_check(
+    uint8_t frequency, uint16_t interval, uint8_t counted, uint32_t count, uint8_t bounded, uint64_t until,
+    uint8_t week_start, uint64_t start,
+    const int16_t *bymonth, size_t bymonth_length,
+    const int16_t *bymonthday, size_t bymonthday_length,
+    const int16_t *byyearday, size_t byyearday_length,
+    const int16_t *byweekno, size_t byweekno_length,
+    const int16_t *byday_n, size_t byday_n_length,
+    const int16_t *byday_weekday, size_t byday_weekday_length,
+    const int16_t *byhour, size_t byhour_length,
+    const int16_t *byminute, size_t byminute_length,
+    const int16_t *bysecond, size_t bysecond_length,
+    const int16_t *bysetpos, size_t bysetpos_length,
+    uint8_t *record, size_t record_length);
+
+/* The first cursor of a record.
+ *
+ * Promise: it answers 20 where the record's bytes are none that an accepted check yields; else 21 where cursor_length isn't
+ * YOMAVELUDGE_CURSOR_LENGTH; else 0. With 0 the cursor's bytes are the fresh cursor: ended by Count if COUNT is 0, else by
+ * Interval if INTERVAL is 0, else running. With any other number they are as they were.
+ */
+uint8_t yomaveludge_fresh(const uint8_t *record, size_t record_length, uint8_t *cursor, size_t cursor_length);
+
+/* One run, from a cursor on: due instants, rising, into the buffer, of any length, with a budget of moves from period to
+ * period.
+ *
+ * Promise: it answers 20 where the record's bytes are none that an accepted check yields; else 21 where the cursor's bytes
+ * are none that is well formed for the record; and then the cursor's bytes and the buffer are as they were, and *moves_made,
+ * *handed_out and *cause are 0. Else it answers 0, 1 or 2:
+ *   0 (More)     the buffer is full: *handed_out is its length
+ *   1 (Limited)  *moves_made is the budget
+ *   2 (Ended)    *cause says why; from such a cursor nothing is handed out any more
+ * The first *handed_out slots hold the next due instants, and the others are as they were; *moves_made is at most the
+ * budget; *cause is 0 unless ended. The cursor's bytes are those of the place reached: the next run goes on there, in this
+ * process or another. However the calls are cut, they list the same instants: all that satisfy the rule, each once, rising.
+ */
+uint8_t yomaveludge_run(
+    const uint8_t *record, size_t record_length, uint8_t *cursor, size_t cursor_length,
+    uint64_t *buffer, size_t buffer_length, uint32_t moves,
+    uint32_t *moves_made, size_t *handed_out, uint8_t *cause);
+
+#ifdef __cplusplus
+}
+#endif
+
+#endif
