@@ -2,14 +2,14 @@
 -- Assumes nothing.
 use Prim.Native.Nat.{ℕ, suc, _+_, _/_, _%_, _≤_, _<_}
 use mathlib.Core.Path.{_≡_, refl, sym, ap, _∙_}
-use mathlib.Core.Bool.{Bool, true, false, not, _&&_, _||_}
+use mathlib.Core.Bool.{Bool, true, false, _&&_}
 use mathlib.Core.List.{List, [], _∷_, _++_, append-nil}
 use native.Mathlib.Omega.{arith}
 use native.Mathlib.Numerals.{add-one}
-use lib.Dec.{leb, ltb}
+use lib.Dec.{leb}
 use lib.ListN.{length, getD, set, drop, drop-of-length-le}
 use lib.Seq.{sets, sets-eq, drop-cons}
-use borrow.Author.Tests.{ltb-true, ltb-false, le-leb, lt-leb}
+use borrow.Author.Tests.{leb-true, le-leb}
 use Rattle.panel.specs.Bytes.{two, four, eight, areFlags, flagByte, flagBytes}
 
 -- a list in two parts: the second is stored behind the first
@@ -50,30 +50,41 @@ pub eight-halves : (l x y : List ℕ) (i n : ℕ) → x ≡ sets l i (four (n % 
 unfolding eight
 eight-halves l x y i n e f = f ∙ ap (λ (a : List ℕ). sets a (i + 4) (four (n / 4294967296))) e ∙ sets-behind l i (i + 4) (four (n % 4294967296)) (four (n / 4294967296)) (ap (λ (k : ℕ). i + k) (length-four (n % 4294967296)))
 
--- a byte is no flag where it is above 1
-not-above : (b : ℕ) → not (ltb 1 b) ≡ leb b 1
-not-above b = go (ltb 1 b) refl
-  where
-    go : (t : Bool) → ltb 1 b ≡ t → not t ≡ leb b 1
-    go true e = sym (lt-leb b 1 (ltb-true 1 b e))
-    go false e = sym (le-leb b 1 (ltb-false 1 b e))
-
-pub flags-next : (strange : Bool) (bytes : List ℕ) (i : ℕ) → i < length bytes
-    → not strange && areFlags (drop i bytes) ≡ not (strange || ltb 1 (getD bytes i 0)) && areFlags (drop (i + 1) bytes)
-unfolding areFlags
-flags-next strange bytes i h = rw (add-one, drop-cons bytes i 0 h) (go strange)
-  where
-    go : (f : Bool) → not f && areFlags (getD bytes i 0 ∷ drop (suc i) bytes) ≡ not (f || ltb 1 (getD bytes i 0)) && areFlags (drop (suc i) bytes)
-    go true = refl
-    go false = ap (λ (t : Bool). t && areFlags (drop (suc i) bytes)) (sym (not-above (getD bytes i 0)))
-
 and-true : (b : Bool) → b && true ≡ b
 and-true true = refl
 and-true false = refl
 
-pub flags-done : (strange : Bool) (bytes : List ℕ) (i : ℕ) → length bytes ≤ i → not strange && areFlags (drop i bytes) ≡ not strange
+and-false : (b : Bool) → b && false ≡ false
+and-false true = refl
+and-false false = refl
+
+-- the higher of two bytes is a flag where both are
+pub higher-second : (a b : ℕ) → a < b → leb b 1 ≡ leb a 1 && leb b 1
+higher-second a b h = go (leb b 1) refl
+  where
+    go : (t : Bool) → leb b 1 ≡ t → leb b 1 ≡ leb a 1 && leb b 1
+    go true e = let l : b ≤ 1 = leb-true b 1 e in rw (le-leb a 1 (omega arith))
+    go false e = rw e (sym (and-false (leb a 1)))
+
+pub higher-first : (a b : ℕ) → b ≤ a → leb a 1 ≡ leb a 1 && leb b 1
+higher-first a b h = go (leb a 1) refl
+  where
+    go : (t : Bool) → leb a 1 ≡ t → leb a 1 ≡ leb a 1 && leb b 1
+    go true e = let l : a ≤ 1 = leb-true a 1 e in rw (e, le-leb b 1 (omega arith))
+    go false e = rw e
+
+pub flags-next : (highest next : ℕ) (bytes : List ℕ) (i : ℕ) → i < length bytes → leb next 1 ≡ leb highest 1 && leb (getD bytes i 0) 1
+    → leb highest 1 && areFlags (drop i bytes) ≡ leb next 1 && areFlags (drop (i + 1) bytes)
 unfolding areFlags
-flags-done strange bytes i h = rw (drop-of-length-le bytes h) (and-true (not strange))
+flags-next highest next bytes i h e = rw (add-one, drop-cons bytes i 0 h, e) (go (leb highest 1))
+  where
+    go : (t : Bool) → t && areFlags (getD bytes i 0 ∷ drop (suc i) bytes) ≡ t && leb (getD bytes i 0) 1 && areFlags (drop (suc i) bytes)
+    go true = refl
+    go false = refl
+
+pub flags-done : (highest : ℕ) (bytes : List ℕ) (i : ℕ) → length bytes ≤ i → leb highest 1 && areFlags (drop i bytes) ≡ leb highest 1
+unfolding areFlags
+flags-done highest bytes i h = rw (drop-of-length-le bytes h) (and-true (leb highest 1))
 
 -- one flag more is written; all are
 pub put-next : (bytes : List ℕ) (from i : ℕ) (set₀ : List Bool) → i < length set₀

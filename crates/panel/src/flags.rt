@@ -1,20 +1,29 @@
 // Flags as bytes, one byte a flag. The loops have no early exit, so that many bytes go at once.
 ghost use mathlib.Core.Path.{_≡_};
 ghost use Prim.Native.Nat.{_+_, _≤_};
+ghost use mathlib.Core.Bool.{_&&_};
+ghost use lib.Dec.{leb};
 ghost use lib.ListN.{length, drop};
 ghost use lib.Seq.{sets};
 ghost use Rattle.panel.specs.Bytes.{areFlags, flagsAt, flagByte, flagBytes};
 
-// Whether every byte from a place on is 0 or 1.
+// The higher of two bytes: it is a flag where both are.
+fn higher(a: u8, b: u8) -> u8
+    ensures { λ r. ⌜ leb r 1 ≡ leb a 1 && leb b 1 ⌝ }
+{
+    if a < b { b } else { a }
+}
+
+// Whether every byte from a place on is 0 or 1: the highest one tells.
 pub(crate) fn are_flags(bytes: &[u8], from: usize) -> bool
     requires { ⌜ from ≤ length (now bytes) ⌝ }
     ensures { λ r. ⌜ r ≡ areFlags (drop from (now (bytes .entry))) ⌝ }
 {
-    let mut strange = false;
+    let mut highest = 0;
     for i in from..bytes.len() {
-        strange = strange | (1 < bytes[i]);
+        highest = higher(highest, bytes[i]);
     }
-    !strange
+    highest <= 1
 }
 
 fn take_flags(bytes: &[u8], from: usize, flags: &mut [bool])
