@@ -108,31 +108,60 @@ static size_t random_days(int16_t *n, int16_t *weekday)
     return length;
 }
 
-/* A call of the check; a record that it accepts goes into the pool. */
+/* The ten lists of a rule, each lent with its exact size. */
+struct lists {
+    int16_t *entries[LISTS];
+    size_t lengths[LISTS];
+};
+
+static struct lists lend_lists(void)
+{
+    int16_t entries[LISTS][8] = {{0}};
+    struct lists lent;
+    for (unsigned i = 0; i < LISTS; i++) {
+        lent.lengths[i] = random_list(i, entries[i]);
+    }
+    lent.lengths[4] = random_days(entries[4], entries[5]);
+    lent.lengths[5] = below(40) == 0 ? below(9) : lent.lengths[4];
+    for (unsigned i = 0; i < LISTS; i++) {
+        lent.entries[i] = lend(entries[i], lent.lengths[i] * sizeof(int16_t));
+    }
+    return lent;
+}
+
+/* A call of the check with numbers that are good most often. */
+static uint8_t call_check(struct lists l, uint8_t *record, size_t length)
+{
+    uint64_t start = below(30) == 0 ? next_random() : next_random() % 253402300800u;
+    uint64_t until = below(30) == 0 ? next_random() : start + next_random() % 1000000000u;
+    uint8_t frequency = (uint8_t)below(below(30) == 0 ? 256 : 7);
+    uint16_t interval = (uint16_t)below(below(9) == 0 ? 65536 : 5);
+    uint8_t week_start = (uint8_t)below(below(30) == 0 ? 256 : 7);
+    return yomaveludge_check(
+        frequency, interval, (uint8_t)below(3), below(99), (uint8_t)below(3), until, week_start, start,
+        l.entries[0], l.lengths[0], l.entries[1], l.lengths[1], l.entries[2], l.lengths[2], l.entries[3], l.lengths[3],
+        l.entries[4], l.lengths[4], l.entries[5], l.lengths[5], l.entries[6], l.lengths[6], l.entries[7], l.lengths[7],
+        l.entries[8], l.lengths[8], l.entries[9], l.lengths[9], record, length);
+}
+
+/* An accepted record goes into the pool, with its fresh cursor. */
+static void keep(const uint8_t *record)
+{
+    memcpy(pool[pooled % POOL], record, YOMAVELUDGE_RECORD_LENGTH);
+    if (yomaveludge_fresh(record, YOMAVELUDGE_RECORD_LENGTH, cursors[pooled % POOL], YOMAVELUDGE_CURSOR_LENGTH) != 0) {
+        fail("fresh: a checked record is refused", 0);
+    }
+    pooled++;
+}
+
 static void try_check(void)
 {
-    int16_t lists[LISTS][8] = {{0}};
-    size_t lengths[LISTS];
-    int16_t *lent[LISTS];
-    for (unsigned i = 0; i < LISTS; i++) {
-        lengths[i] = random_list(i, lists[i]);
-    }
-    lengths[4] = random_days(lists[4], lists[5]);
-    lengths[5] = below(40) == 0 ? below(9) : lengths[4];
-    for (unsigned i = 0; i < LISTS; i++) {
-        lent[i] = lend(lists[i], lengths[i] * sizeof(int16_t));
-    }
+    struct lists lent = lend_lists();
     size_t length = below(20) == 0 ? below(6000) : YOMAVELUDGE_RECORD_LENGTH;
     uint8_t before[6000];
     add_noise(before, length);
     uint8_t *record = lend(before, length);
-    uint64_t start = below(30) == 0 ? next_random() : next_random() % 253402300800u;
-    uint64_t until = below(30) == 0 ? next_random() : start + next_random() % 1000000000u;
-    uint8_t answer = yomaveludge_check(
-        (uint8_t)below(below(30) == 0 ? 256 : 7), (uint16_t)below(below(9) == 0 ? 65536 : 5), (uint8_t)below(3), below(99),
-        (uint8_t)below(3), until, (uint8_t)below(below(30) == 0 ? 256 : 7), start, lent[0], lengths[0], lent[1], lengths[1],
-        lent[2], lengths[2], lent[3], lengths[3], lent[4], lengths[4], lent[5], lengths[5], lent[6], lengths[6], lent[7],
-        lengths[7], lent[8], lengths[8], lent[9], lengths[9], record, length);
+    uint8_t answer = call_check(lent, record, length);
     answers[0][answer]++;
     if (answer > 9 && answer != 20) {
         fail("check: no such answer", answer);
@@ -144,15 +173,11 @@ static void try_check(void)
         fail("check: refused, and the bytes are changed", answer);
     }
     if (answer == 0) {
-        memcpy(pool[pooled % POOL], record, length);
-        if (yomaveludge_fresh(record, length, cursors[pooled % POOL], YOMAVELUDGE_CURSOR_LENGTH) != 0) {
-            fail("fresh: a checked record is refused", 0);
-        }
-        pooled++;
+        keep(record);
     }
     free(record);
     for (unsigned i = 0; i < LISTS; i++) {
-        free(lent[i]);
+        free(lent.entries[i]);
     }
 }
 
@@ -220,72 +245,111 @@ static void try_fresh(unsigned which)
     free(cursor);
 }
 
+/* What is lent to a run, as it was before and as it is after. */
+struct call {
+    uint8_t record_before[YOMAVELUDGE_RECORD_LENGTH];
+    uint8_t cursor_before[YOMAVELUDGE_CURSOR_LENGTH];
+    uint64_t buffer_before[SLOTS + GUARDS];
+    uint8_t *record;
+    uint8_t *cursor;
+    uint64_t *buffer;
+    size_t record_length;
+    size_t cursor_length;
+    size_t slots;
+    uint32_t moves;
+    uint32_t made;
+    size_t handed;
+    uint8_t cause;
+    uint8_t answer;
+};
+
 /* What a run that is not refused keeps to. */
-static void judge_run(
-    uint8_t answer, const uint64_t *buffer, const uint64_t *before, size_t slots, uint32_t moves, uint32_t made, size_t handed,
-    uint8_t cause)
+static void judge_run(const struct call *c)
 {
-    if (handed > slots || made > moves) {
-        fail("run: more than was lent", answer);
+    if (c->handed > c->slots || c->made > c->moves) {
+        fail("run: more than was lent", c->answer);
     }
-    if ((answer == 0 && handed != slots) || (answer == 1 && made != moves)) {
-        fail("run: stopped for no reason", answer);
+    if ((c->answer == 0 && c->handed != c->slots) || (c->answer == 1 && c->made != c->moves)) {
+        fail("run: stopped for no reason", c->answer);
     }
-    if ((answer == 2) != (cause != 0) || cause > 5) {
-        fail("run: the cause", cause);
+    if ((c->answer == 2) != (c->cause != 0) || c->cause > 5) {
+        fail("run: the cause", c->cause);
     }
-    for (size_t i = 0; i < handed; i++) {
-        if (buffer[i] > 253402300799u || (i != 0 && buffer[i] <= buffer[i - 1])) {
-            fail("run: the instants", answer);
+    for (size_t i = 0; i < c->handed; i++) {
+        if (c->buffer[i] > 253402300799u || (i != 0 && c->buffer[i] <= c->buffer[i - 1])) {
+            fail("run: the instants", c->answer);
         }
     }
-    if (memcmp(buffer + handed, before + handed, (slots - handed) * sizeof(uint64_t)) != 0) {
-        fail("run: slots past those handed out", answer);
+    if (memcmp(c->buffer + c->handed, c->buffer_before + c->handed, (c->slots - c->handed) * sizeof(uint64_t)) != 0) {
+        fail("run: slots past those handed out", c->answer);
     }
-    instants += handed;
+    instants += c->handed;
 }
 
-/* What is asked of every run: only known answers, and nothing touched where it is refused. */
+/* What a refused run keeps to: nothing is changed, and the counts are 0. */
+static void judge_refused(const struct call *c)
+{
+    if (c->answer != 20 && c->answer != 21) {
+        fail("run: no such answer", c->answer);
+    }
+    if (memcmp(c->cursor, c->cursor_before, c->cursor_length) != 0) {
+        fail("run: refused, and the cursor is changed", c->answer);
+    }
+    if (memcmp(c->buffer, c->buffer_before, c->slots * sizeof(uint64_t)) != 0) {
+        fail("run: refused, and the buffer is changed", c->answer);
+    }
+    if (c->made != 0 || c->handed != 0 || c->cause != 0) {
+        fail("run: refused, and the counts aren't 0", c->answer);
+    }
+}
+
+static void call_run(struct call *c)
+{
+    c->slots = below(SLOTS + 1);
+    add_noise((uint8_t *)c->buffer_before, sizeof c->buffer_before);
+    c->record = lend(c->record_before, c->record_length);
+    c->cursor = lend(c->cursor_before, c->cursor_length);
+    c->buffer = lend(c->buffer_before, (c->slots + GUARDS) * sizeof(uint64_t));
+    c->moves = below(24);
+    c->made = 77;
+    c->handed = 77;
+    c->cause = 77;
+    c->answer = yomaveludge_run(
+        c->record, c->record_length, c->cursor, c->cursor_length, c->buffer, c->slots, c->moves, &c->made, &c->handed, &c->cause);
+    answers[2][c->answer]++;
+    if (memcmp(c->record, c->record_before, c->record_length) != 0) {
+        fail("run: the record is changed", c->answer);
+    }
+    if (memcmp(c->buffer + c->slots, c->buffer_before + c->slots, GUARDS * sizeof(uint64_t)) != 0) {
+        fail("run: slots behind the buffer", c->answer);
+    }
+}
+
 static void try_run(unsigned which)
 {
-    uint8_t bytes[YOMAVELUDGE_RECORD_LENGTH];
-    uint8_t from[YOMAVELUDGE_CURSOR_LENGTH];
-    uint64_t before[SLOTS + GUARDS];
-    unsigned kind;
-    unsigned of;
-    size_t length = random_record(bytes, which, &kind);
-    size_t size = random_cursor(from, which, &of);
-    size_t slots = below(SLOTS + 1);
-    add_noise((uint8_t *)before, sizeof before);
-    uint8_t *record = lend(bytes, length);
-    uint8_t *cursor = lend(from, size);
-    uint64_t *buffer = lend(before, (slots + GUARDS) * sizeof(uint64_t));
-    uint32_t moves = below(24);
-    uint32_t made = 77;
-    size_t handed = 77;
-    uint8_t cause = 77;
-    uint8_t answer = yomaveludge_run(record, length, cursor, size, buffer, slots, moves, &made, &handed, &cause);
-    answers[2][answer]++;
-    if (answer > 2 && answer != 20 && answer != 21) {
-        fail("run: no such answer", answer);
+    struct call c;
+    unsigned record_kind;
+    unsigned cursor_kind;
+    c.record_length = random_record(c.record_before, which, &record_kind);
+    c.cursor_length = random_cursor(c.cursor_before, which, &cursor_kind);
+    call_run(&c);
+    if (record_kind == 0 && cursor_kind == 0 && c.answer > 2) {
+        fail("run: a good cursor is refused", c.answer);
     }
-    if ((kind == 0 && of == 0) != (answer <= 2) && kind != 1 && of != 1 && of != 3) {
-        fail("run: good is refused, or bad is taken", answer);
+    if ((record_kind > 1 || cursor_kind == 2) && c.answer <= 2) {
+        fail("run: cut or noise is taken", c.answer);
     }
-    if (memcmp(record, bytes, length) != 0 || memcmp(buffer + slots, before + slots, GUARDS * sizeof(uint64_t)) != 0) {
-        fail("run: what wasn't lent for writing is changed", answer);
-    }
-    if (answer <= 2) {
-        judge_run(answer, buffer, before, slots, moves, made, handed, cause);
-        if (kind == 0) {
-            memcpy(cursors[which], cursor, size);
+    if (c.answer > 2) {
+        judge_refused(&c);
+    } else {
+        judge_run(&c);
+        if (record_kind == 0) {
+            memcpy(cursors[which], c.cursor, c.cursor_length);
         }
-    } else if (memcmp(cursor, from, size) != 0 || memcmp(buffer, before, slots * sizeof(uint64_t)) != 0 || made + handed + cause != 0) {
-        fail("run: refused, and something is changed", answer);
     }
-    free(record);
-    free(cursor);
-    free(buffer);
+    free(c.record);
+    free(c.cursor);
+    free(c.buffer);
 }
 
 static void print_answers(const char *name, unsigned which)

@@ -55,6 +55,22 @@ static void print_instant(uint64_t instant)
     }
 }
 
+/* One call: the next starts, up to four. It returns the stop. */
+static uint8_t list_some(const uint8_t *record, uint8_t *cursor)
+{
+    uint64_t buffer[4];
+    uint32_t made;
+    size_t handed;
+    uint8_t cause;
+    uint8_t stop = yomaveludge_run(
+        record, YOMAVELUDGE_RECORD_LENGTH, cursor, YOMAVELUDGE_CURSOR_LENGTH, buffer, 4, 100, &made, &handed, &cause);
+    printf("stop %d, cause %d, %" PRIu32 " moves, %zu handed out\n", stop, cause, made, handed);
+    for (size_t i = 0; i < handed; i++) {
+        print_instant(buffer[i]);
+    }
+    return stop;
+}
+
 int main(int argc, char **argv)
 {
     if (argc != 2) {
@@ -63,32 +79,16 @@ int main(int argc, char **argv)
     }
     uint8_t record[YOMAVELUDGE_RECORD_LENGTH];
     uint8_t cursor[YOMAVELUDGE_CURSOR_LENGTH];
-    uint8_t refused = check_rule(record);
-    if (refused != YOMAVELUDGE_ACCEPTED) {
-        printf("check: refused %d\n", refused);
+    if (check_rule(record) != YOMAVELUDGE_ACCEPTED) {
         return 1;
     }
-    refused = yomaveludge_fresh(record, sizeof record, cursor, sizeof cursor);
-    if (refused != YOMAVELUDGE_ACCEPTED) {
-        printf("fresh: refused %d\n", refused);
+    if (yomaveludge_fresh(record, sizeof record, cursor, sizeof cursor) != YOMAVELUDGE_ACCEPTED) {
         return 1;
     }
     for (;;) {
-        uint64_t buffer[4];
-        uint32_t made;
-        size_t handed;
-        uint8_t cause;
-        uint8_t stop = yomaveludge_run(record, sizeof record, cursor, sizeof cursor, buffer, 4, 100, &made, &handed, &cause);
-        if (stop > YOMAVELUDGE_ENDED) {
-            printf("run: refused %d\n", stop);
-            return 1;
-        }
-        printf("stop %d, cause %d, %" PRIu32 " moves, %zu handed out\n", stop, cause, made, handed);
-        for (size_t i = 0; i < handed; i++) {
-            print_instant(buffer[i]);
-        }
-        if (stop == YOMAVELUDGE_ENDED) {
-            return 0;
+        uint8_t stop = list_some(record, cursor);
+        if (stop >= YOMAVELUDGE_ENDED) {
+            return stop != YOMAVELUDGE_ENDED;
         }
         if (!save(argv[1], cursor) || !restore(argv[1], cursor)) {
             perror(argv[1]);

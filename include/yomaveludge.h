@@ -121,7 +121,9 @@ uint8_t yomaveludge_fresh(const uint8_t *record, size_t record_length, uint8_t *
  *   2 (Ended)    *cause says why; from such a cursor nothing is handed out any more
  * The first *handed_out slots hold the next due instants, and the others are as they were; *moves_made is at most the
  * budget; *cause is 0 unless ended. The cursor's bytes are those of the place reached: the next run goes on there, in this
- * process or another. However the calls are cut, they list the same instants: all that satisfy the rule, each once, rising.
+ * process or another. From the fresh cursor on, however the calls are cut, they hand out the instants that satisfy the rule,
+ * each once, rising, with none left out up to the last. An end by Count has handed out COUNT of them; after any other end
+ * none is left (INTERVAL 0 aside, which hands out nothing).
  */
 uint8_t yomaveludge_run(
     const uint8_t *record, size_t record_length, uint8_t *cursor, size_t cursor_length,

@@ -24,7 +24,8 @@ use Rattle.rule.specs.Records.{yielded}
 use Rattle.rule.specs.Run.{periods, freshOf, runOf}
 use Rattle.panel.specs.Layout.{Decoded, Decoded.nothing, Decoded.holds, recordLength, cursorLength, decodeRecord, encodeCursor, decodeCursor}
 use Rattle.panel.specs.Edge.{Said, said, saidOf, checkSays, freshFrom, freshSays, Shown, shown, shows, refusedShows, unreadable, runFrom, runSays}
-use Rattle.panel.specs.Claims.{CheckNumbers, CheckRefusedLeaves, FreshNumbers, FreshRefusedLeaves, RunNumbers, RunRefusedLeaves}
+use Rattle.panel.specs.Claims.{CheckNumbers, CheckRefusedLeaves, FreshNumbers, FreshRefusedLeaves, RunNumbers, RunRefusedLeaves, RunOfWritten}
+use Rattle.panel.proofs.ReadBack.{record-read-back, cursor-read-back}
 
 never : {A : Type 0} (n : ℕ) → n < n → A
 never n h = absurd (omega arith)
@@ -123,3 +124,7 @@ run-numbers rulebytes cursorbytes buffer m = run-good (decodeRecord rulebytes) (
 pub run-refused-leaves : RunRefusedLeaves
 unfolding runSays
 run-refused-leaves rulebytes cursorbytes buffer m = run-good (decodeRecord rulebytes) (decodeCursor cursorbytes) cursorbytes buffer m .1
+
+pub run-of-written : RunOfWritten
+unfolding runSays
+run-of-written r c buffer m sized = rw (record-read-back r sized, cursor-read-back c)

@@ -1,4 +1,4 @@
--- What follows from the layout and from what the calls say. The proofs are in proofs/Theorems.
+-- What follows from the layout and from what the calls say. The proofs are in proofs: ReadBack, OneForm and Said.
 -- Assumes nothing.
 use Prim.Native.Nat.{ℕ, _≤_, _<_}
 use mathlib.Core.Path.{_≡_}
@@ -9,8 +9,9 @@ use Rattle.machine.specs.declared.Cursor.{Cursor}
 use Rattle.rule.specs.declared.rrule.Rule.{Rule}
 use Rattle.rule.specs.Raw.{Raw}
 use Rattle.rule.specs.Records.{Sized}
+use Rattle.rule.specs.Run.{runOf}
 use Rattle.panel.specs.Layout.{Decoded.holds, encodeRecord, decodeRecord, encodeCursor, decodeCursor}
-use Rattle.panel.specs.Edge.{checkSays, freshSays, shown, runSays}
+use Rattle.panel.specs.Edge.{checkSays, freshSays, shown, shows, runSays}
 
 -- every byte is below 256: so it is with all that comes from C
 abbrev pub AreBytes : List ℕ → Type 0
@@ -30,6 +31,11 @@ CursorReadBack = (c : Cursor) → decodeCursor (encodeCursor c) ≡ holds c
 
 abbrev pub CursorOneForm : Type 0
 CursorOneForm = (bytes : List ℕ) (c : Cursor) → AreBytes bytes → decodeCursor bytes ≡ holds c → encodeCursor c ≡ bytes
+
+-- From bytes that were written, a run is the run of that record from that cursor. So what is proved of calls one after the other holds of calls from C.
+abbrev pub RunOfWritten : Type 0
+RunOfWritten =
+    (r : Rule) (c : Cursor) (buffer : List ℕ) (m : ℕ) → Sized r → runSays (encodeRecord r) (encodeCursor c) buffer m ≡ shows (runOf r c buffer m) (encodeCursor c)
 
 -- Only the numbers of the table are said, and a call that says one of a refusal leaves what was lent as it was.
 abbrev pub CheckNumbers : Type 0
