@@ -8,7 +8,7 @@ use crate::theirs;
 const INSTANTS: usize = 100_000;
 const CALLS: usize = 10_000;
 const SIZES: [usize; 4] = [1_000, 10_000, 100_000, 1_000_000];
-/// Two rules that have a million instants up to 9999, one of them with a list: places in `RULES`.
+/// Places in `RULES` of two rules that have a million instants up to 9999, one of them with a list.
 const GROWING: [usize; 2] = [0, 6];
 
 /// What one kind of listing listed, and the least nanoseconds an instant.
@@ -30,15 +30,7 @@ fn best_of<const KINDS: usize>(rounds: usize, mut kinds: [&mut dyn FnMut() -> Li
     best
 }
 
-/// What is said of the two sums, and whether that may be.
-fn verdict(rule: &Rule, ours: Best, theirs: Best) -> (&'static str, bool) {
-    match (ours.listed == theirs.listed, rule.rust_is_wrong) {
-        (true, _) => ("equal", true),
-        (false, true) => ("differ: the Rust is wrong", true),
-        (false, false) => ("DIFFER", false),
-    }
-}
-
+/// A number with a comma before each three digits.
 fn grouped(number: usize) -> String {
     let digits = number.to_string();
     let place_of_comma = |i: usize| i > 0 && (digits.len() - i) % 3 == 0;
@@ -54,8 +46,21 @@ fn shown(ns: f64) -> String {
     }
 }
 
+/// Prints a row, with the cells of `more` at its end. The answer is whether the two sums are as they should be.
+fn print_row(rule: &Rule, ours: Best, theirs: Best, more: &str) -> bool {
+    let (sums, right) = match (ours.listed == theirs.listed, rule.rust_is_wrong) {
+        (true, _) => ("equal", true),
+        (false, true) => ("differ: the Rust is wrong", true),
+        (false, false) => ("DIFFER", false),
+    };
+    let (name, count, ratio) = (rule.name, grouped(ours.listed.count), theirs.ns / ours.ns);
+    let (ours, theirs) = (shown(ours.ns), shown(theirs.ns));
+    println!("| {name} | {count} | {ours} | {theirs} | ratio {ratio:.1} | {sums} |{more}");
+    right
+}
+
 fn print_listings(rounds: usize) -> bool {
-    println!("| rule, from 2024-01-01 | instants | ours, ns an instant | the Rust's RRuleIter | | its RRuleSet | sums |");
+    println!("| rule, from 2024-01-01 | instants | ours, ns an instant | the Rust's RRuleIter | | sums | its RRuleSet |");
     println!("|---|---|---|---|---|---|---|");
     let mut buffer = vec![0; SLOTS];
     let mut all_right = true;
@@ -69,11 +74,8 @@ fn print_listings(rounds: usize) -> bool {
                 &mut || theirs::list_set(&theirs_rule, INSTANTS),
             ],
         );
-        let (sums, right) = verdict(rule, ours, theirs);
-        all_right &= right && set.listed == theirs.listed;
-        let (name, count, ratio) = (rule.name, grouped(ours.listed.count), theirs.ns / ours.ns);
-        let (ours, theirs, set) = (shown(ours.ns), shown(theirs.ns), shown(set.ns));
-        println!("| {name} | {count} | {ours} | {theirs} | ratio {ratio:.1} | {set} | {sums} |");
+        all_right &= print_row(rule, ours, theirs, &format!(" {} |", shown(set.ns)));
+        all_right &= set.listed == theirs.listed;
     }
     all_right
 }
@@ -91,11 +93,7 @@ fn print_calls(rounds: usize) -> bool {
                 &mut || theirs::list_by_next(&theirs_rule, CALLS),
             ],
         );
-        let (sums, right) = verdict(rule, ours, theirs);
-        all_right &= right;
-        let (name, count, ratio) = (rule.name, grouped(ours.listed.count), theirs.ns / ours.ns);
-        let (ours, theirs) = (shown(ours.ns), shown(theirs.ns));
-        println!("| {name} | {count} | {ours} | {theirs} | ratio {ratio:.1} | {sums} |");
+        all_right &= print_row(rule, ours, theirs, "");
     }
     all_right
 }
@@ -106,27 +104,21 @@ fn print_growth(rounds: usize) -> bool {
     let mut buffer = vec![0; SLOTS];
     let mut all_right = true;
     for (place, n) in GROWING.iter().flat_map(|place| SIZES.map(|n| (*place, n))) {
-        let rule = &RULES[place];
-        let (record, theirs_rule) = (ours::record(rule), theirs::rule(rule));
+        let (record, theirs_rule) = (ours::record(&RULES[place]), theirs::rule(&RULES[place]));
         // a short listing is timed more often, a long one at least three times
-        let rounds = (rounds * INSTANTS / n).clamp(3, rounds * 10);
         let [ours, theirs] = best_of(
-            rounds,
+            (rounds * INSTANTS / n).clamp(3, rounds * 10 + 3),
             [
                 &mut || ours::list(&record, n, &mut buffer),
                 &mut || theirs::list(&theirs_rule, n),
             ],
         );
-        let (sums, right) = verdict(rule, ours, theirs);
-        all_right &= right;
-        let (name, count, ratio) = (rule.name, grouped(ours.listed.count), theirs.ns / ours.ns);
-        let (ours, theirs) = (shown(ours.ns), shown(theirs.ns));
-        println!("| {name} | {count} | {ours} | {theirs} | ratio {ratio:.1} | {sums} |");
+        all_right &= print_row(&RULES[place], ours, theirs, "");
     }
     all_right
 }
 
-/// Whether all sums are as they should be.
+/// The three tables; whether all sums are as they should be.
 pub fn print(rounds: usize) -> bool {
     let listings = print_listings(rounds);
     println!();
