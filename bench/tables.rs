@@ -60,6 +60,7 @@ fn print_row(rule: &Rule, ours: Best, theirs: Best, more: &str) -> bool {
 }
 
 fn print_listings(rounds: usize) -> bool {
+    println!("Whole listings, {} instants or up to 9999:\n", grouped(INSTANTS));
     println!("| rule, from 2024-01-01 | instants | ours, ns an instant | the Rust's RRuleIter | | sums | its RRuleSet |");
     println!("|---|---|---|---|---|---|---|");
     let mut buffer = vec![0; SLOTS];
@@ -74,13 +75,15 @@ fn print_listings(rounds: usize) -> bool {
                 &mut || theirs::list_set(&theirs_rule, INSTANTS),
             ],
         );
-        all_right &= print_row(rule, ours, theirs, &format!(" {} |", shown(set.ns)));
-        all_right &= set.listed == theirs.listed;
+        let is_alike = set.listed == theirs.listed;
+        let more = if is_alike { format!(" {} |", shown(set.ns)) } else { " DIFFER |".to_string() };
+        all_right &= print_row(rule, ours, theirs, &more) && is_alike;
     }
     all_right
 }
 
 fn print_calls(rounds: usize) -> bool {
+    println!("One instant a call:\n");
     println!("| rule, from 2024-01-01 | calls | ours with one slot, ns a call | the Rust's next | | sums |");
     println!("|---|---|---|---|---|---|");
     let mut all_right = true;
@@ -99,6 +102,7 @@ fn print_calls(rounds: usize) -> bool {
 }
 
 fn print_growth(rounds: usize) -> bool {
+    println!("From a short listing to a long one:\n");
     println!("| rule, from 2024-01-01 | instants | ours, ns an instant | the Rust's RRuleIter | | sums |");
     println!("|---|---|---|---|---|---|");
     let mut buffer = vec![0; SLOTS];
