@@ -43,9 +43,9 @@ all-rows s w from n to h f row l k = f row l (omega arith)
 
 -- Without an entry no day passes: a month's days ask for the rows 48 to 58.
 none-passes : (s : List Bool) (w p l from to : ℕ) → w < 7 → 1 ≤ p → p ≤ 366 → 1 ≤ l → l ≤ 366
-    → from ≤ 52 - (l - 1) / 7 → (p - 1) / 7 + 54 < to → 52 < to → from ≤ 54 → NoEntry s w from to → nthPasses s w p (p + l - 1) ≡ false
+    → from ≤ 52 - (l - 1) / 7 → (p - 1) / 7 + 54 < to → NoEntry s w from to → nthPasses s w p (p + l - 1) ≡ false
 unfolding NoEntry
-none-passes s w p l from to hw a b c d x y u v f =
+none-passes s w p l from to hw a b c d x y f =
     nth-slots s w p l hw a b c d ∙ (rw (f ((p - 1) / 7 + 54) (omega arith) y, f (52 - (l - 1) / 7) x (omega arith)))
 
 none-in-month : (y : Year) (s : List Bool) (i : ℕ) → i < daysOf (y .long) + 7 → NoEntry s (weekday (y .first + i)) 48 59 → nthAt false y s i ≡ false
@@ -54,7 +54,7 @@ none-in-month y s i h n =
     let m : InMonth p = in-month (y .long) i p h refl in
     sym (passes-at y s i (weekday (y .first + i)) p h refl refl)
     ∙ none-passes s (weekday (y .first + i)) (p .day) (p .left) 48 59 (omega arith) (omega arith) (omega arith) (omega arith) (omega arith)
-    (omega arith) (omega arith) (omega arith) (omega arith) n
+    (omega arith) (omega arith) n
 
 none-in-year : (y : Year) (s : List Bool) (i : ℕ) → i < daysOf (y .long) + 7 → NoEntry s (weekday (y .first + i)) 0 107 → nthAt true y s i ≡ false
 none-in-year y s i h n =
@@ -63,7 +63,7 @@ none-in-year y s i h n =
     let r = year-day (y .long) (y .nextlong) i h in
     sym (nth-in-year y s i (weekday (y .first + i)) p l (lt-ltb i (daysOf (y .long) + 7) h) refl refl refl)
     ∙ none-passes s (weekday (y .first + i)) p l 0 107 (omega arith) (omega arith) (omega arith) (omega arith) (omega arith)
-    (omega arith) (omega arith) (omega arith) (omega arith) n
+    (omega arith) (omega arith) n
 
 -- The days of one weekday: none is marked before the first of them; one more is; all are, where the place has passed the end.
 module _ (f : ℕ → Bool) (first w : ℕ) (was : List Bool) where
