@@ -1,15 +1,16 @@
 -- Bytes that are read and written one after the other.
 -- Assumes nothing.
-use Prim.Native.Nat.{ℕ, suc, _+_, _/_, _%_, _≤_, _<_}
+use Prim.Native.Nat.{ℕ, suc, _+_, _-_, _/_, _%_, _≤_, _<_}
 use mathlib.Core.Path.{_≡_, refl, sym, ap, _∙_}
 use mathlib.Core.Bool.{Bool, true, false, _&&_}
-use mathlib.Core.List.{List, [], _∷_, _++_, append-nil}
+use mathlib.Core.List.{List, [], _∷_, _++_, append-nil, append-assoc}
 use native.Mathlib.Omega.{arith}
 use native.Mathlib.Numerals.{add-one}
 use lib.Dec.{leb}
-use lib.ListN.{length, getD, set, drop, drop-of-length-le}
-use lib.Seq.{sets, sets-eq, drop-cons}
+use lib.ListN.{length, getD, set, take, drop, drop-of-length-le}
+use lib.Seq.{sets, sets-eq, drop-cons, take-suc-set, take-all}
 use borrow.Author.Tests.{leb-true, le-leb}
+use Rattle.rule.specs.Lists.{flags}
 use Rattle.panel.specs.Bytes.{two, four, eight, areFlags, flagByte, flagBytes}
 
 -- a list in two parts: the second is stored behind the first
@@ -85,6 +86,26 @@ flags-next highest next bytes i h e = rw (add-one, drop-cons bytes i 0 h, e) (go
 pub flags-done : (highest : ℕ) (bytes : List ℕ) (i : ℕ) → length bytes ≤ i → leb highest 1 && areFlags (drop i bytes) ≡ leb highest 1
 unfolding areFlags
 flags-done highest bytes i h = rw (drop-of-length-le bytes h) (and-true (leb highest 1))
+
+-- one flag more is taken; all are
+module _ (f : ℕ → Bool) (n : ℕ) where
+  left-next : (i : ℕ) → i < n → flags f (n - i) i ≡ f i ∷ flags f (n - (i + 1)) (i + 1)
+  unfolding flags
+  left-next i h = let s : n - i ≡ suc (n - (i + 1)) = omega arith in rw s
+
+  left-none : (i : ℕ) → n ≤ i → flags f (n - i) i ≡ []
+  unfolding flags
+  left-none i h = let s : n - i ≡ 0 = omega arith in rw s
+
+  pub take-next : (set₀ r : List Bool) (i : ℕ) → i < n → length set₀ ≡ n → take i set₀ ++ flags f (n - i) i ≡ r
+      → take (i + 1) (set set₀ i (f i)) ++ flags f (n - (i + 1)) (i + 1) ≡ r
+  take-next set₀ r i h l e =
+      let a : take (i + 1) (set set₀ i (f i)) ≡ take i set₀ ++ (f i ∷ []) =
+          ap (λ (k : ℕ). take k (set set₀ i (f i))) (add-one i) ∙ take-suc-set set₀ i (f i) (omega arith) in
+      rw (a, append-assoc) (rw (left-next i h) at e)
+
+  pub take-done : (set₀ r : List Bool) (i : ℕ) → n ≤ i → length set₀ ≡ n → take i set₀ ++ flags f (n - i) i ≡ r → set₀ ≡ r
+  take-done set₀ r i h l e = sym (append-nil set₀) ∙ (rw (left-none i h, take-all i set₀ (omega arith)) at e)
 
 -- one flag more is written; all are
 pub put-next : (bytes : List ℕ) (from i : ℕ) (set₀ : List Bool) → i < length set₀

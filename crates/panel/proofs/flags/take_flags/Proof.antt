@@ -7,8 +7,8 @@ use native.Mathlib.Omega.{arith}
 use lib.Dec.{eqb}
 use lib.ListN.{length, getD, take, length-set}
 use Rattle.rule.specs.Lists.{flags}
-use Rattle.days.proofs.MaskLaws.{mask-next, mask-done}
 use Rattle.panel.specs.Bytes.{flagsAt}
+use Rattle.panel.proofs.ByteLaws.{take-next, take-done}
 use borrow.Author.Needs.{needs}
 use Rattle.panel.proofs.flags.take_flags.Statement.{statement}
 use Rattle.panel.proofs.flags.take_flags.Tie as tie
@@ -49,7 +49,7 @@ loop-again c =
     let a = l .before .args in (
       search needs,
       simp length-set (l .loop .inv .1),
-      mask-next (λ (slot : ℕ). eqb (getD (a .bytes .now) (a .from + slot) 0) 1) (length (a .flags .now)) (l .loop .flags) (flagsAt (a .bytes .now) (a .from) (length (a .flags .now))) (l .loop .i) _ (search needs) (l .loop .inv .1) refl (l .loop .inv .2),
+      take-next (λ (slot : ℕ). eqb (getD (a .bytes .now) (a .from + slot) 0) 1) (length (a .flags .now)) (l .loop .flags) (flagsAt (a .bytes .now) (a .from) (length (a .flags .now))) (l .loop .i) (search needs) (l .loop .inv .1) (l .loop .inv .2),
     )
 
 same-length : tie.Need-same-length Inv-loop μ-loop
@@ -59,7 +59,7 @@ returns : tie.Need-returns Inv-loop μ-loop
 returns c =
     let l = c .before in
     let a = l .before .args in
-    mask-done (λ (slot : ℕ). eqb (getD (a .bytes .now) (a .from + slot) 0) 1) (length (a .flags .now)) (l .loop .flags) (flagsAt (a .bytes .now) (a .from) (length (a .flags .now))) (l .loop .i) (search needs) (l .loop .inv .1) (l .loop .inv .2)
+    take-done (λ (slot : ℕ). eqb (getD (a .bytes .now) (a .from + slot) 0) 1) (length (a .flags .now)) (l .loop .flags) (flagsAt (a .bytes .now) (a .from) (length (a .flags .now))) (l .loop .i) (search needs) (l .loop .inv .1) (l .loop .inv .2)
 
 pub take-flags-spec : {M : Type 1} → statement M
 take-flags-spec =
