@@ -54,7 +54,7 @@ class Judge:
         self.mended, self.oracle = mended, oracle
         self.explainer = entries.Explainer(mended)
         self.total = 0
-        self.classes, self.explained, self.with_model, self.public = Counter(), Counter(), Counter(), 0
+        self.classes, self.explained, self.with_model = Counter(), Counter(), Counter()
         self.parts = Counter()  # of the rules whose listings were compared
         self.unlisted = []
 
@@ -130,23 +130,22 @@ class Judge:
         if pair.theirs.stop == GAVE_UP:
             if not entries.gives_up_rightly(pair.rule, pair.theirs):
                 return self.wrong(pair, "the Rust gives up after other than 99,999 rounds")
+            if not self.public_hides_it(pair):
+                return self.wrong(pair, "through RRuleSet the limit shows")
             self.explained[entries.ROUNDS] += 1
-            self.ask_public(pair)
         if pair.theirs.capped:
             self.explained[entries.YEAR_10000] += 1
         if pair.ours.stop == BUDGET and not pair.ours.instants and not pair.deep:
             return self.count(pair, "not at all: nothing is due within our budget of moves")
         self.count(pair, how_far(pair.ours, pair.theirs))
 
-    def ask_public(self, pair):
-        """Some rules are asked again the public way, which says that the listing ended."""
-        if self.public == PUBLIC_OF_A_RUN:
-            return
-        self.public += 1
-        answer, = ask(self.oracle, [f"{pair.rust_line} set=1"])
-        if not answer.startswith(f"ok n={len(pair.theirs.instants)} end=1 limited=0"):
-            return self.wrong(pair, "through RRuleSet the limit shows")
+    def public_hides_it(self, pair):
+        """Some rules are asked again the public way, which has to say that the listing ended."""
+        if self.explained[entries.PUBLIC] == PUBLIC_OF_A_RUN:
+            return True
         self.explained[entries.PUBLIC] += 1
+        answer, = ask(self.oracle, [f"{pair.rust_line} set=1"])
+        return answer.startswith(f"ok n={len(pair.theirs.instants)} end=1 limited=0")
 
     def judge_difference(self, pair, counted):
         found = self.explainer.entries(pair)
