@@ -180,7 +180,8 @@ class Judge:
         print("entry, and how many rules it explains:")
         for entry in sorted(entries.named_entries() | self.explained.keys(), key=lambda e: -self.explained[e]):
             print(f"{self.explained[entry]:8}  {entry}")
-        print(f"{sum(self.with_model.values()):8}  of our answers held against the model, {self.with_model['agreeing']} where the two agree")
+        held, agreeing = sum(self.with_model.values()), self.with_model["agreeing"]
+        print(f"{held:8}  of our answers held against the model, {agreeing} where the two agree")
         print(f"{self.explainer.both_ways:8}  of the differing listings held against the Rust mended in every other place")
         print(f"{len(self.unlisted):8}  disagreements that no entry explains")
         for line, why, ours, theirs in sorted(self.unlisted, key=lambda w: (len(w[0].split()), len(w[0])))[:20]:

@@ -57,7 +57,8 @@ def late_start(rng, rule):
 
 
 KINDS = (
-    out_of_order, twice, positions_alone, odd_month_days, nth_from_weekly, nth_beside_weeks, mixed, too_high, late_until, late_start,
+    out_of_order, twice, positions_alone, odd_month_days, nth_from_weekly, nth_beside_weeks, mixed, too_high,
+    late_until, late_start,
 )
 
 
