@@ -22,7 +22,7 @@ static uint64_t state;
 static uint8_t pool[POOL][YOMAVELUDGE_RECORD_LENGTH];
 static uint8_t cursors[POOL][YOMAVELUDGE_CURSOR_LENGTH];
 static unsigned pooled;
-static uint64_t answers[3][256];
+static uint64_t answers[4][256];
 static uint64_t instants;
 
 static uint64_t next_random(void)
@@ -283,6 +283,7 @@ static void judge_run(const struct call *c)
     if (memcmp(c->buffer + c->handed, c->buffer_before + c->handed, (c->slots - c->handed) * sizeof(uint64_t)) != 0) {
         fail("run: slots past those handed out", c->answer);
     }
+    answers[3][c->cause]++;
     instants += c->handed;
 }
 
@@ -387,5 +388,6 @@ int main(int argc, char **argv)
     print_answers("check", 0);
     print_answers("fresh", 1);
     print_answers("run", 2);
+    print_answers("cause", 3);
     return 0;
 }
