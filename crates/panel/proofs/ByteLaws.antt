@@ -101,7 +101,7 @@ module _ (f : ℕ → Bool) (n : ℕ) where
       → take (i + 1) (set set₀ i (f i)) ++ flags f (n - (i + 1)) (i + 1) ≡ r
   take-next set₀ r i h l e =
       let a : take (i + 1) (set set₀ i (f i)) ≡ take i set₀ ++ (f i ∷ []) =
-          ap (λ (k : ℕ). take k (set set₀ i (f i))) (add-one i) ∙ take-suc-set set₀ i (f i) (omega arith) in
+      ap (λ (k : ℕ). take k (set set₀ i (f i))) (add-one i) ∙ take-suc-set set₀ i (f i) (omega arith) in
       rw (a, append-assoc) (rw (left-next i h) at e)
 
   pub take-done : (set₀ r : List Bool) (i : ℕ) → n ≤ i → length set₀ ≡ n → take i set₀ ++ flags f (n - i) i ≡ r → set₀ ≡ r
