@@ -1,4 +1,4 @@
--- A day set where one mask or the weekday decides: only that test is asked, and the stretch ends with the year's tables.
+-- A day set where one list is asked: its test alone decides, and the stretch ends with the year's tables.
 -- Assumes nothing.
 use Prim.Native.Nat.{ℕ, zero, suc, _+_, _-_, _%_, min, _≤_, _<_}
 use mathlib.Core.Path.{_≡_, refl, sym, ap, _∙_}
@@ -16,8 +16,8 @@ use Rattle.times.specs.Blocks.{passing}
 use Rattle.weeks.specs.declared.yearinfo.Year.{Year}
 use Rattle.days.specs.declared.filters.Asked.{Asked}
 use Rattle.days.specs.Masks.{inTables}
-use Rattle.days.specs.Filters.{DayLists, weekdayAt, placePasses}
-use Rattle.days.specs.DaySets.{daySet, isDated, hasEvery, allDays, markedDays, weekdayDays}
+use Rattle.days.specs.Filters.{DayLists, monthAt, yeardayAt, weekdayAt, placePasses}
+use Rattle.days.specs.DaySets.{daySet, isMixed, hasEvery, allDays, markedDays, monthDays, yearDays, weekdayDays}
 use Rattle.days.proofs.Rows.{days-high}
 use Rattle.days.proofs.Slots.{every-slot}
 use Rattle.days.proofs.FilterLaws.{past-fails}
@@ -75,50 +75,66 @@ module _ (a : Asked) (y : Year) (l : DayLists) (weeks nths : List Bool) (from to
       (min to 373) (min to 373 - from) from refl
       ∙ ap (λ (n : ℕ). passing q n from) m
 
-  -- no date is asked for, and not both a week and a weekday
-  record Undated : Type 0 where
-    pub month : a .month ≡ false
+  -- where lists are not mixed, what is asked beside one that is asked
+  record Sole : Type 0 where
     pub monthday : a .monthday ≡ false
-    pub yearday : a .yearday ≡ false
-    pub week-or-day : (a .weekno && a .day) ≡ false
+    pub beside-month : (a .month && (a .yearday || (a .weekno || a .day))) ≡ false
+    pub beside-yearday : (a .yearday && (a .weekno || a .day)) ≡ false
+    pub beside-week : (a .weekno && a .day) ≡ false
 
-  undated : isDated a ≡ false → Undated
-  undated h =
-      let x = neither (a .month) (a .monthday || (a .yearday || (a .weekno && a .day))) h in
-      let v = neither (a .monthday) (a .yearday || (a .weekno && a .day)) (x .1) in
-      let w = neither (a .yearday) (a .weekno && a .day) (v .1) in
-      record { month = x .0; monthday = v .0; yearday = w .0; week-or-day = w .1 }
+  sole : isMixed a ≡ false → Sole
+  sole h =
+      let x = neither (a .monthday) ((a .month && (a .yearday || (a .weekno || a .day))) || ((a .yearday && (a .weekno || a .day)) || (a .weekno && a .day))) h in
+      let v = neither (a .month && (a .yearday || (a .weekno || a .day))) ((a .yearday && (a .weekno || a .day)) || (a .weekno && a .day)) (x .1) in
+      let w = neither (a .yearday && (a .weekno || a .day)) (a .weekno && a .day) (v .1) in
+      record { monthday = x .0; beside-month = v .0; beside-yearday = w .0; beside-week = w .1 }
 
   and-true : (b : Bool) → (b && true) ≡ b
   and-true true = refl
   and-true false = refl
 
-  pub by-weeks : isDated a ≡ false → a .weekno ≡ true → daySet a y l weeks nths from to ≡ markedDays weeks from (min to (daysOf (y .long) + 7))
+  pub by-month : isMixed a ≡ false → a .month ≡ true → daySet a y l weeks nths from to ≡ monthDays (y .long) (l .bymonth) from (min to (daysOf (y .long) + 7))
+  unfolding monthDays placePasses
+  by-month h k =
+      let u = sole h in
+      let r : (a .yearday || (a .weekno || a .day)) ≡ false = rw k at (u .beside-month) in
+      let b = neither (a .yearday) (a .weekno || a .day) r in
+      let c = neither (a .weekno) (a .day) (b .1) in
+      by-test (monthAt (y .long) (l .bymonth)) (λ i t. rw (t, k, u .monthday, b .0, c .0, c .1) (and-true (monthAt (y .long) (l .bymonth) i)))
+
+  pub by-year-day : isMixed a ≡ false → a .month ≡ false → a .yearday ≡ true
+      → daySet a y l weeks nths from to ≡ yearDays (y .long) (y .nextlong) (l .byyearday) from (min to (daysOf (y .long) + 7))
+  unfolding yearDays placePasses
+  by-year-day h m k =
+      let u = sole h in
+      let r : (a .weekno || a .day) ≡ false = rw k at (u .beside-yearday) in
+      let c = neither (a .weekno) (a .day) r in
+      by-test (yeardayAt (y .long) (y .nextlong) (l .byyearday)) (λ i t. rw (t, m, u .monthday, k, c .0, c .1) (and-true (yeardayAt (y .long) (y .nextlong) (l .byyearday) i)))
+
+  pub by-weeks : isMixed a ≡ false → a .month ≡ false → a .yearday ≡ false → a .weekno ≡ true
+      → daySet a y l weeks nths from to ≡ markedDays weeks from (min to (daysOf (y .long) + 7))
   unfolding markedDays placePasses
-  by-weeks h k =
-      let u = undated h in
-      let d : a .day ≡ false = rw k at (u .week-or-day) in
-      by-test (λ i. getD weeks i false) (λ i t. rw (t, u .month, u .monthday, u .yearday, k, d) (and-true (getD weeks i false)))
+  by-weeks h m x k =
+      let u = sole h in
+      let d : a .day ≡ false = rw k at (u .beside-week) in
+      by-test (λ i. getD weeks i false) (λ i t. rw (t, m, u .monthday, x, k, d) (and-true (getD weeks i false)))
 
-  pub by-none : isDated a ≡ false → a .weekno ≡ false → a .day ≡ false → daySet a y l weeks nths from to ≡ allDays from (min to (daysOf (y .long) + 7))
+  pub by-none : isMixed a ≡ false → a .month ≡ false → a .yearday ≡ false → a .weekno ≡ false → a .day ≡ false
+      → daySet a y l weeks nths from to ≡ allDays from (min to (daysOf (y .long) + 7))
   unfolding allDays placePasses
-  by-none h k d =
-      let u = undated h in
-      by-test (λ _. true) (λ i t. rw (t, u .month, u .monthday, u .yearday, k, d))
+  by-none h m x k d = by-test (λ _. true) (λ i t. rw (t, m, sole h .monthday, x, k, d))
 
-  pub by-weekday : isDated a ≡ false → a .weekno ≡ false → a .day ≡ true
+  pub by-weekday : isMixed a ≡ false → a .month ≡ false → a .yearday ≡ false → a .weekno ≡ false → a .day ≡ true
       → daySet a y l weeks nths from to ≡ weekdayDays (a .nth) (y .first) (l .byday) nths from (min to (daysOf (y .long) + 7))
   unfolding weekdayDays placePasses
-  by-weekday h k d =
-      let u = undated h in
-      by-test (weekdayAt (a .nth) (y .first) (l .byday) nths) (λ i t. rw (t, u .month, u .monthday, u .yearday, k, d))
+  by-weekday h m x k d =
+      by-test (weekdayAt (a .nth) (y .first) (l .byday) nths) (λ i t. rw (t, m, sole h .monthday, x, k, d))
 
-  pub by-nths : isDated a ≡ false → a .weekno ≡ false → a .day ≡ true → a .nth ≡ true → hasEvery (l .byday) ≡ false
+  pub by-nths : isMixed a ≡ false → a .month ≡ false → a .yearday ≡ false → a .weekno ≡ false → a .day ≡ true → a .nth ≡ true → hasEvery (l .byday) ≡ false
       → daySet a y l weeks nths from to ≡ markedDays nths from (min to (daysOf (y .long) + 7))
   unfolding markedDays placePasses weekdayAt
-  by-nths h k d n e =
-      let u = undated h in
-      by-test (λ i. getD nths i false) (λ i t. rw (t, u .month, u .monthday, u .yearday, k, d, n, every-slot (l .byday) ((y .first + i) % 7) (omega arith), no-every (l .byday) ((y .first + i) % 7) e (omega arith)))
+  by-nths h m x k d n e =
+      by-test (λ i. getD nths i false) (λ i t. rw (t, m, sole h .monthday, x, k, d, n, every-slot (l .byday) ((y .first + i) % 7) (omega arith), no-every (l .byday) ((y .first + i) % 7) e (omega arith)))
 
 -- what is written of one list is written of the same list by another name
 pub as-set : (xs ys b b₀ : List ℕ) (n : ℕ) → xs ≡ ys → n ≡ length ys → b ≡ sets b₀ 0 ys → (n ≡ length xs) × (b ≡ sets b₀ 0 xs)

@@ -7,22 +7,22 @@ use Rattle.times.specs.Blocks.{passing}
 use Rattle.weeks.specs.declared.yearinfo.Year.{Year}
 use Rattle.days.specs.declared.filters.Asked.{Asked}
 use lib.ListN.{getD}
-use Rattle.days.specs.Filters.{DayLists, weekdayAt, placePasses}
+use Rattle.days.specs.Filters.{DayLists, monthAt, yeardayAt, weekdayAt, placePasses}
 
 -- the passing places from `from` up to `to`, or up to the tables' end
 unfoldable pub daySet : Asked → Year → DayLists → (weeks nths : List Bool) → (from to : ℕ) → List ℕ
 unfolding passing placePasses
 daySet a y l weeks nths from to = passing (placePasses a y l weeks nths) (min to 373 - from) from
 
--- Where a date is asked for, or both a week and a weekday, no single mask decides.
-abbrev pub isDated : Asked → Bool
-isDated a = a .month || (a .monthday || (a .yearday || (a .weekno && a .day)))
+-- More than one list is asked, or BYMONTHDAY: no single test decides.
+abbrev pub isMixed : Asked → Bool
+isMixed a = a .monthday || ((a .month && (a .yearday || (a .weekno || a .day))) || ((a .yearday && (a .weekno || a .day)) || (a .weekno && a .day)))
 
 -- BYDAY has an entry with n = 0.
 abbrev pub hasEvery : List Bool → Bool
 hasEvery s = getD s 371 false || (getD s 372 false || (getD s 373 false || (getD s 374 false || (getD s 375 false || (getD s 376 false || getD s 377 false)))))
 
--- all places, those that a mask marks, and those that pass BYDAY, from `from` up to `end`
+-- all places, those that a mask marks, and those that pass BYMONTH, BYYEARDAY or BYDAY, from `from` up to `end`
 unfoldable pub allDays : (from end : ℕ) → List ℕ
 unfolding passing
 allDays from end = passing (λ _. true) (end - from) from
@@ -30,6 +30,14 @@ allDays from end = passing (λ _. true) (end - from) from
 unfoldable pub markedDays : (marks : List Bool) → (from end : ℕ) → List ℕ
 unfolding passing
 markedDays marks from end = passing (λ i. getD marks i false) (end - from) from
+
+unfoldable pub monthDays : Bool → (bymonth : List Bool) → (from end : ℕ) → List ℕ
+unfolding passing monthAt
+monthDays long bymonth from end = passing (monthAt long bymonth) (end - from) from
+
+unfoldable pub yearDays : Bool → Bool → (byyearday : List Bool) → (from end : ℕ) → List ℕ
+unfolding passing yeardayAt
+yearDays long nextlong byyearday from end = passing (yeardayAt long nextlong byyearday) (end - from) from
 
 unfoldable pub weekdayDays : Bool → ℕ → (byday nths : List Bool) → (from end : ℕ) → List ℕ
 unfolding passing weekdayAt

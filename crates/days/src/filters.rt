@@ -45,7 +45,12 @@ pub fn asked_lists(rule: Rule) -> Asked
     }
 }
 
-fn is_filtered_by_month(asked: bool, long: bool, place: usize, bymonth: &[bool; 12]) -> bool
+pub(crate) fn is_filtered_by_month(
+    asked: bool,
+    long: bool,
+    place: usize,
+    bymonth: &[bool; 12],
+) -> bool
     requires { ⌜ place < daysOf long + 7 ⌝ }
     ensures { λ r. ⌜ r ≡ not (whereAsked asked (monthAt long (now (bymonth .entry)) place)) ⌝ }
 {
@@ -68,7 +73,7 @@ fn is_filtered_by_month_day(asked: bool, long: bool, place: usize, bymonthday: &
     !(bymonthday[30 + day] | bymonthday[31 - left])
 }
 
-fn is_filtered_by_year_day(
+pub(crate) fn is_filtered_by_year_day(
     asked: bool,
     long: bool,
     nextlong: bool,

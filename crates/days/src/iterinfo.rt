@@ -1,7 +1,9 @@
 // What the day test needs of a year, and day sets.
 use crate::filters::Asked;
 use crate::filters::is_filtered;
+use crate::filters::is_filtered_by_month;
 use crate::filters::is_filtered_by_weekday;
+use crate::filters::is_filtered_by_year_day;
 use crate::monthinfo::neg_weekday_mask;
 use crate::places::days_of;
 use weeks::yearinfo::Year;
@@ -15,7 +17,7 @@ ghost use Rattle.days.specs.Filters.{dayLists};
 ghost use Rattle.weeks.specs.Weeks.{weekMask};
 ghost use Rattle.days.specs.Masks.{nthMask};
 ghost use Rattle.calendar.specs.Calendar.{daysOf};
-ghost use Rattle.days.specs.DaySets.{daySet, isDated, hasEvery, allDays, markedDays, weekdayDays};
+ghost use Rattle.days.specs.DaySets.{daySet, isMixed, hasEvery, allDays, markedDays, monthDays, yearDays, weekdayDays};
 ghost use Rattle.days.specs.Info.{maskWhere, infoOf};
 
 // A year and its masks, which are blank where the rule has no use for them.
@@ -106,11 +108,13 @@ fn filtered_days<'a, 'b>(
     count
 }
 
-// Whether a date is asked for, or both a week and a weekday: then each day goes through the filters.
-fn is_dated(asked: Asked) -> bool
-    ensures { λ r. ⌜ r ≡ isDated asked ⌝ }
+// Whether more than one list is asked, or BYMONTHDAY: then each day goes through the filters.
+fn is_mixed(asked: Asked) -> bool
+    ensures { λ r. ⌜ r ≡ isMixed asked ⌝ }
 {
-    asked.month | (asked.monthday | (asked.yearday | (asked.weekno & asked.day)))
+    asked.monthday
+        | ((asked.month & (asked.yearday | (asked.weekno | asked.day)))
+            | ((asked.yearday & (asked.weekno | asked.day)) | (asked.weekno & asked.day)))
 }
 
 // Whether BYDAY has an entry for every weekday of its kind.
@@ -160,6 +164,53 @@ fn marked_days(marks: &[bool; 373], from: usize, end: usize, days: &mut [u16; 37
     marked
 }
 
+// The places of a stretch that pass BYMONTH.
+fn month_days(
+    long: bool,
+    from: usize,
+    end: usize,
+    bymonth: &[bool; 12],
+    days: &mut [u16; 373],
+) -> usize
+    requires { ⌜ (end ≤ 373) × (end ≤ daysOf long + 7) ⌝ }
+    ensures count { λ r. ⌜ r ≡ length (monthDays long (now (bymonth .entry)) from end) ⌝ }
+    ensures places { λ r. ⌜ now (days .exit) ≡ sets (now (days .entry)) 0 (monthDays long (now (bymonth .entry)) from end) ⌝ }
+{
+    let mut taken: usize = 0;
+    for place in from..end {
+        if is_filtered_by_month(true, long, place, bymonth) {
+            continue;
+        }
+        days[taken] = place as u16;
+        taken += 1;
+    }
+    taken
+}
+
+// The places of a stretch that pass BYYEARDAY.
+fn year_days(
+    long: bool,
+    nextlong: bool,
+    from: usize,
+    end: usize,
+    byyearday: &[bool; 732],
+    days: &mut [u16; 373],
+) -> usize
+    requires { ⌜ (end ≤ 373) × (end ≤ daysOf long + 7) ⌝ }
+    ensures count { λ r. ⌜ r ≡ length (yearDays long nextlong (now (byyearday .entry)) from end) ⌝ }
+    ensures places { λ r. ⌜ now (days .exit) ≡ sets (now (days .entry)) 0 (yearDays long nextlong (now (byyearday .entry)) from end) ⌝ }
+{
+    let mut found: usize = 0;
+    for place in from..end {
+        if is_filtered_by_year_day(true, long, nextlong, place, byyearday) {
+            continue;
+        }
+        days[found] = place as u16;
+        found += 1;
+    }
+    found
+}
+
 // The places of a stretch that pass BYDAY.
 fn weekday_days<'a, 'b>(
     nth: bool,
@@ -186,7 +237,7 @@ fn weekday_days<'a, 'b>(
 }
 
 // The passing days of a stretch of a year's tables, as their places in order, and how many there are. The slots behind them stay.
-// Where one mask or the weekday decides, the other filters are not asked.
+// Where one list is asked, its test alone decides.
 pub fn get_dayset<'a, 'b>(
     asked: Asked,
     year: Year,
@@ -203,7 +254,7 @@ pub fn get_dayset<'a, 'b>(
     ensures count { λ r. ⌜ r ≡ length (daySet asked year (dayLists (now (bymonth .entry)) (now (bymonthday .entry)) (now (byyearday .entry)) (now (byday .entry))) (now (weeks .entry)) (now (nths .entry)) from to) ⌝ }
     ensures places { λ r. ⌜ now (days .exit) ≡ sets (now (days .entry)) 0 (daySet asked year (dayLists (now (bymonth .entry)) (now (bymonthday .entry)) (now (byyearday .entry)) (now (byday .entry))) (now (weeks .entry)) (now (nths .entry)) from to) ⌝ }
 {
-    if is_dated(asked) {
+    if is_mixed(asked) {
         return filtered_days(
             asked,
             year,
@@ -219,6 +270,12 @@ pub fn get_dayset<'a, 'b>(
         );
     }
     let end = stretch_end(year.long, to);
+    if asked.month {
+        return month_days(year.long, from, end, bymonth, days);
+    }
+    if asked.yearday {
+        return year_days(year.long, year.nextlong, from, end, byyearday, days);
+    }
     if asked.weekno {
         return marked_days(weeks, from, end, days);
     }
