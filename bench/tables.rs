@@ -109,9 +109,9 @@ fn print_growth(rounds: usize) -> bool {
     let mut all_right = true;
     for (place, n) in GROWING.iter().flat_map(|place| SIZES.map(|n| (*place, n))) {
         let (record, theirs_rule) = (ours::record(&RULES[place]), theirs::rule(&RULES[place]));
-        // a short listing is timed more often, a long one at least three times
+        // a short listing is timed more often, a long one at least nine times
         let [ours, theirs] = best_of(
-            (rounds * INSTANTS / n).clamp(3, rounds * 10 + 3),
+            (rounds * INSTANTS / n).clamp(9, rounds * 10 + 9),
             [
                 &mut || ours::list(&record, n, &mut buffer),
                 &mut || theirs::list(&theirs_rule, n),
