@@ -41,7 +41,7 @@ const PLAIN: Rule = Rule {
 
 const WORKDAYS: [(i16, i16); 5] = [(0, 0), (0, 1), (0, 2), (0, 3), (0, 4)];
 
-pub const RULES: [Rule; 10] = [
+pub static RULES: [Rule; 10] = [
     Rule { name: "DAILY", freq: 3, ..PLAIN },
     Rule { name: "WEEKLY;BYDAY=MO,FR", freq: 2, byday: &[(0, 0), (0, 4)], ..PLAIN },
     Rule { name: "MONTHLY;BYDAY=-1FR", freq: 1, byday: &[(-1, 4)], ..PLAIN },
