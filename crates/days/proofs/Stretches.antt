@@ -8,7 +8,7 @@ use lib.ListN.{length, getD}
 use lib.Seq.{sets}
 use native.Mathlib.Omega.{arith}
 use native.Mathlib.Decide.{decLt}
-use borrow.Author.Tests.{lt-ltb, le-ltb, not-true}
+use borrow.Author.Tests.{lt-ltb, le-ltb, not-true, not-false}
 use Rattle.calendar.specs.Calendar.{daysOf, weekday}
 use Rattle.rule.specs.Candidates.{gather, only}
 use Rattle.rule.proofs.GivenLaws.{neither}
@@ -17,7 +17,7 @@ use Rattle.weeks.specs.declared.yearinfo.Year.{Year}
 use Rattle.days.specs.declared.filters.Asked.{Asked}
 use Rattle.days.specs.Masks.{inTables}
 use Rattle.days.specs.Filters.{DayLists, monthAt, yeardayAt, weekdayAt, placePasses}
-use Rattle.days.specs.DaySets.{daySet, isMixed, hasEvery, allDays, markedDays, monthDays, yearDays, weekdayDays}
+use Rattle.days.specs.DaySets.{daySet, isPlain, isMixed, hasEvery, allDays, markedDays, monthDays, yearDays, weekdayDays}
 use Rattle.days.proofs.Rows.{days-high}
 use Rattle.days.proofs.Slots.{every-slot}
 use Rattle.days.proofs.FilterLaws.{past-fails}
@@ -119,22 +119,30 @@ module _ (a : Asked) (y : Year) (l : DayLists) (weeks nths : List Bool) (from to
       let d : a .day ≡ false = rw k at (u .beside-week) in
       by-test (λ i. getD weeks i false) (λ i t. rw (t, m, u .monthday, x, k, d) (and-true (getD weeks i false)))
 
-  pub by-none : isMixed a ≡ false → a .month ≡ false → a .yearday ≡ false → a .weekno ≡ false → a .day ≡ false
-      → daySet a y l weeks nths from to ≡ allDays from (min to (daysOf (y .long) + 7))
+  pub by-none : isPlain a ≡ true → daySet a y l weeks nths from to ≡ allDays from (min to (daysOf (y .long) + 7))
   unfolding allDays placePasses
-  by-none h m x k d = by-test (λ _. true) (λ i t. rw (t, m, sole h .monthday, x, k, d))
+  by-none h =
+      let x = neither (a .month) (a .monthday || (a .yearday || (a .weekno || a .day))) (not-true _ h) in
+      let v = neither (a .monthday) (a .yearday || (a .weekno || a .day)) (x .1) in
+      let w = neither (a .yearday) (a .weekno || a .day) (v .1) in
+      let z = neither (a .weekno) (a .day) (w .1) in
+      by-test (λ _. true) (λ i t. rw (t, x .0, v .0, w .0, z .0, z .1))
 
-  pub by-weekday : isMixed a ≡ false → a .month ≡ false → a .yearday ≡ false → a .weekno ≡ false → a .day ≡ true
+  -- where some list is asked, and none of the others, it is BYDAY
+  day-asked : isPlain a ≡ false → isMixed a ≡ false → a .month ≡ false → a .yearday ≡ false → a .weekno ≡ false → a .day ≡ true
+  day-asked p h m x k = let d : not (a .day) ≡ false = rw (m, sole h .monthday, x, k) at p in not-false (a .day) d
+
+  pub by-weekday : isPlain a ≡ false → isMixed a ≡ false → a .month ≡ false → a .yearday ≡ false → a .weekno ≡ false
       → daySet a y l weeks nths from to ≡ weekdayDays (a .nth) (y .first) (l .byday) nths from (min to (daysOf (y .long) + 7))
   unfolding weekdayDays placePasses
-  by-weekday h m x k d =
-      by-test (weekdayAt (a .nth) (y .first) (l .byday) nths) (λ i t. rw (t, m, sole h .monthday, x, k, d))
+  by-weekday p h m x k =
+      by-test (weekdayAt (a .nth) (y .first) (l .byday) nths) (λ i t. rw (t, m, sole h .monthday, x, k, day-asked p h m x k))
 
-  pub by-nths : isMixed a ≡ false → a .month ≡ false → a .yearday ≡ false → a .weekno ≡ false → a .day ≡ true → a .nth ≡ true → hasEvery (l .byday) ≡ false
+  pub by-nths : isPlain a ≡ false → isMixed a ≡ false → a .month ≡ false → a .yearday ≡ false → a .weekno ≡ false → a .nth ≡ true → hasEvery (l .byday) ≡ false
       → daySet a y l weeks nths from to ≡ markedDays nths from (min to (daysOf (y .long) + 7))
   unfolding markedDays placePasses weekdayAt
-  by-nths h m x k d n e =
-      by-test (λ i. getD nths i false) (λ i t. rw (t, m, sole h .monthday, x, k, d, n, every-slot (l .byday) ((y .first + i) % 7) (omega arith), no-every (l .byday) ((y .first + i) % 7) e (omega arith)))
+  by-nths p h m x k n e =
+      by-test (λ i. getD nths i false) (λ i t. rw (t, m, sole h .monthday, x, k, day-asked p h m x k, n, every-slot (l .byday) ((y .first + i) % 7) (omega arith), no-every (l .byday) ((y .first + i) % 7) e (omega arith)))
 
 -- what is written of one list is written of the same list by another name
 pub as-set : (xs ys b b₀ : List ℕ) (n : ℕ) → xs ≡ ys → n ≡ length ys → b ≡ sets b₀ 0 ys → (n ≡ length xs) × (b ≡ sets b₀ 0 xs)

@@ -1,7 +1,7 @@
 -- Day sets: the passing days of a stretch of a year's tables, in order.
 -- Assumes nothing.
 use Prim.Native.Nat.{ℕ, _-_, min}
-use mathlib.Core.Bool.{Bool, true, false, _&&_, _||_}
+use mathlib.Core.Bool.{Bool, true, false, not, _&&_, _||_}
 use mathlib.Core.List.{List}
 use Rattle.times.specs.Blocks.{passing}
 use Rattle.weeks.specs.declared.yearinfo.Year.{Year}
@@ -13,6 +13,10 @@ use Rattle.days.specs.Filters.{DayLists, monthAt, yeardayAt, weekdayAt, 
 unfoldable pub daySet : Asked → Year → DayLists → (weeks nths : List Bool) → (from to : ℕ) → List ℕ
 unfolding passing placePasses
 daySet a y l weeks nths from to = passing (placePasses a y l weeks nths) (min to 373 - from) from
+
+-- No list is asked: every day passes.
+abbrev pub isPlain : Asked → Bool
+isPlain a = not (a .month || (a .monthday || (a .yearday || (a .weekno || a .day))))
 
 -- More than one list is asked, or BYMONTHDAY: no single test decides.
 abbrev pub isMixed : Asked → Bool

@@ -17,7 +17,7 @@ ghost use Rattle.days.specs.Filters.{dayLists};
 ghost use Rattle.weeks.specs.Weeks.{weekMask};
 ghost use Rattle.days.specs.Masks.{nthMask};
 ghost use Rattle.calendar.specs.Calendar.{daysOf};
-ghost use Rattle.days.specs.DaySets.{daySet, isMixed, hasEvery, allDays, markedDays, monthDays, yearDays, weekdayDays};
+ghost use Rattle.days.specs.DaySets.{daySet, isPlain, isMixed, hasEvery, allDays, markedDays, monthDays, yearDays, weekdayDays};
 ghost use Rattle.days.specs.Info.{maskWhere, infoOf};
 
 // A year and its masks, which are blank where the rule has no use for them.
@@ -106,6 +106,13 @@ fn filtered_days<'a, 'b>(
         count += 1;
     }
     count
+}
+
+// Whether no list is asked.
+fn is_plain(asked: Asked) -> bool
+    ensures { λ r. ⌜ r ≡ isPlain asked ⌝ }
+{
+    !(asked.month | (asked.monthday | (asked.yearday | (asked.weekno | asked.day))))
 }
 
 // Whether more than one list is asked, or BYMONTHDAY: then each day goes through the filters.
@@ -254,6 +261,10 @@ pub fn get_dayset<'a, 'b>(
     ensures count { λ r. ⌜ r ≡ length (daySet asked year (dayLists (now (bymonth .entry)) (now (bymonthday .entry)) (now (byyearday .entry)) (now (byday .entry))) (now (weeks .entry)) (now (nths .entry)) from to) ⌝ }
     ensures places { λ r. ⌜ now (days .exit) ≡ sets (now (days .entry)) 0 (daySet asked year (dayLists (now (bymonth .entry)) (now (bymonthday .entry)) (now (byyearday .entry)) (now (byday .entry))) (now (weeks .entry)) (now (nths .entry)) from to) ⌝ }
 {
+    let end = stretch_end(year.long, to);
+    if is_plain(asked) {
+        return all_days(from, end, days);
+    }
     if is_mixed(asked) {
         return filtered_days(
             asked,
@@ -269,7 +280,6 @@ pub fn get_dayset<'a, 'b>(
             days,
         );
     }
-    let end = stretch_end(year.long, to);
     if asked.month {
         return month_days(year.long, from, end, bymonth, days);
     }
@@ -278,9 +288,6 @@ pub fn get_dayset<'a, 'b>(
     }
     if asked.weekno {
         return marked_days(weeks, from, end, days);
-    }
-    if !asked.day {
-        return all_days(from, end, days);
     }
     if asked.nth & !has_every(byday) {
         return marked_days(nths, from, end, days);
