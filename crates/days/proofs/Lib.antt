@@ -1,3 +1,4 @@
+pub mod Blanks
 pub mod DayTest
 pub mod FilterLaws
 pub mod MarkLaws

@@ -1,6 +1,7 @@
 -- Day sets: the passing days of a stretch of a year's tables, in order.
 -- Assumes nothing.
-use Prim.Native.Nat.{ℕ, _-_, min}
+use Prim.Native.Nat.{ℕ, _+_, _-_, _≤_, _<_, min}
+use mathlib.Core.Path.{_≡_}
 use mathlib.Core.Bool.{Bool, true, false, not, _&&_, _||_}
 use mathlib.Core.List.{List}
 use Rattle.times.specs.Blocks.{passing}
@@ -46,3 +47,16 @@ yearDays long nextlong byyearday from end = passing (yeardayAt long nextlong byy
 unfoldable pub weekdayDays : Bool → ℕ → (byday nths : List Bool) → (from end : ℕ) → List ℕ
 unfolding passing weekdayAt
 weekdayDays nth first byday nths from end = passing (weekdayAt nth first byday nths) (end - from) from
+
+-- A mask marks none of eight places.
+abbrev pub isBlank : List Bool → ℕ → Bool
+isBlank marks i =
+    not (getD marks i false || (getD marks (i + 1) false || (getD marks (i + 2) false || (getD marks (i + 3) false
+    || (getD marks (i + 4) false || (getD marks (i + 5) false || (getD marks (i + 6) false || getD marks (i + 7) false)))))))
+
+-- r is the first place from `from` on that is marked, or `to`.
+pub record FirstMarked (marks : List Bool) (from to r : ℕ) : Type 0 where
+  pub low : from ≤ r
+  pub high : r ≤ to
+  pub blank : (i : ℕ) → from ≤ i → i < r → getD marks i false ≡ false
+  pub marked : r < to → getD marks r false ≡ true

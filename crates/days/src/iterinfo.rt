@@ -17,7 +17,7 @@ ghost use Rattle.days.specs.Filters.{dayLists};
 ghost use Rattle.weeks.specs.Weeks.{weekMask};
 ghost use Rattle.days.specs.Masks.{nthMask};
 ghost use Rattle.calendar.specs.Calendar.{daysOf};
-ghost use Rattle.days.specs.DaySets.{daySet, isPlain, isMixed, hasEvery, allDays, markedDays, monthDays, yearDays, weekdayDays};
+ghost use Rattle.days.specs.DaySets.{daySet, isPlain, isMixed, isBlank, FirstMarked, hasEvery, allDays, markedDays, monthDays, yearDays, weekdayDays};
 ghost use Rattle.days.specs.Info.{maskWhere, infoOf};
 
 // A year and its masks, which are blank where the rule has no use for them.
@@ -154,19 +154,63 @@ fn all_days(from: usize, end: usize, days: &mut [u16; 373]) -> usize
     written
 }
 
+// Whether a mask marks none of eight places.
+fn is_blank(marks: &[bool; 373], at: usize) -> bool
+    requires { ⌜ at + 8 ≤ 373 ⌝ }
+    ensures { λ r. ⌜ r ≡ isBlank (now (marks .entry)) at ⌝ }
+{
+    !(marks[at]
+        | (marks[at + 1]
+            | (marks[at + 2]
+                | (marks[at + 3]
+                    | (marks[at + 4] | (marks[at + 5] | (marks[at + 6] | marks[at + 7])))))))
+}
+
+// The first place of a stretch that a mask marks, or the stretch's end.
+fn first_marked(marks: &[bool; 373], from: usize, to: usize) -> usize
+    requires { ⌜ (from ≤ to) × (to ≤ 373) ⌝ }
+    ensures { λ r. ⌜ FirstMarked (now (marks .entry)) from to r ⌝ }
+{
+    let mut at = from;
+    while at < to {
+        if marks[at] {
+            return at;
+        }
+        at += 1;
+    }
+    at
+}
+
+// The same where few places are marked: eight that aren't are passed at a step.
+fn next_marked(marks: &[bool; 373], from: usize, to: usize) -> usize
+    requires { ⌜ (from ≤ to) × (to ≤ 373) ⌝ }
+    ensures { λ r. ⌜ FirstMarked (now (marks .entry)) from to r ⌝ }
+{
+    let mut at = from;
+    while at + 8 <= to {
+        if !is_blank(marks, at) {
+            return first_marked(marks, at, to);
+        }
+        at += 8;
+    }
+    first_marked(marks, at, to)
+}
+
 // The places of a stretch that a mask marks.
 fn marked_days(marks: &[bool; 373], from: usize, end: usize, days: &mut [u16; 373]) -> usize
     requires { ⌜ end ≤ 373 ⌝ }
     ensures count { λ r. ⌜ r ≡ length (markedDays (now (marks .entry)) from end) ⌝ }
     ensures places { λ r. ⌜ now (days .exit) ≡ sets (now (days .entry)) 0 (markedDays (now (marks .entry)) from end) ⌝ }
 {
+    if end <= from {
+        return 0;
+    }
     let mut marked: usize = 0;
-    for place in from..end {
-        if !marks[place] {
-            continue;
-        }
+    let mut place = next_marked(marks, from, end);
+    while place < end {
         days[marked] = place as u16;
         marked += 1;
+        place = next_marked(marks, place + 1, end);
     }
     marked
 }

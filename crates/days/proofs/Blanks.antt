@@ -1,0 +1,102 @@
+-- The search for the next place that a mask marks, and a day set that is filled from mark to mark.
+-- Assumes nothing.
+use Prim.Native.Nat.{ℕ, zero, suc, _+_, _-_, _≤_, _<_}
+use mathlib.Core.Path.{_≡_, refl, sym, ap, _∙_}
+use mathlib.Core.Bool.{Bool, true, false, not, _||_}
+use mathlib.Core.List.{List}
+use lib.ListN.{length, getD}
+use native.Mathlib.Omega.{arith}
+use native.Mathlib.Decide.{decLt}
+use borrow.Author.Tests.{not-true}
+use Rattle.rule.proofs.GivenLaws.{neither}
+use Rattle.days.specs.DaySets.{isBlank, FirstMarked}
+use Rattle.days.proofs.MaskLaws.{Filling, fill-no}
+
+-- no place is marked from `from` up to `at`
+pub record Searched (marks : List Bool) (from to at : ℕ) : Type 0 where
+  pub low : from ≤ at
+  pub high : at ≤ to
+  pub blank : (i : ℕ) → from ≤ i → i < at → getD marks i false ≡ false
+
+module _ (marks : List Bool) (from to : ℕ) where
+  pub search-begins : from ≤ to → Searched marks from to from
+  search-begins h = record { low = omega arith; high = h; blank = λ i a b. absurd (omega arith) }
+
+  -- so many more are not marked
+  pub search-on : (at n : ℕ) → Searched marks from to at → at + n ≤ to → ((i : ℕ) → at ≤ i → i < at + n → getD marks i false ≡ false)
+      → Searched marks from to (at + n)
+  search-on at n s h f = record {
+    low = omega (arith, s .low);
+    high = h;
+    blank = λ i a b. go i a b (decLt i at);
+  }
+    where
+      go : (i : ℕ) → from ≤ i → i < at + n → Dec (i < at) → getD marks i false ≡ false
+      go i a b (yes l) = s .blank i a l
+      go i a b (no l) = f i (omega arith) b
+
+  pub search-one : (at : ℕ) → Searched marks from to at → at < to → getD marks at false ≡ false → Searched marks from to (at + 1)
+  search-one at s h e =
+      search-on at 1 s (omega arith) (λ i a b. let q : i ≡ at = omega arith in ap (λ (k : ℕ). getD marks k false) q ∙ e)
+
+  pub search-finds : (at : ℕ) → Searched marks from to at → getD marks at false ≡ true → FirstMarked marks from to at
+  search-finds at s e = record { low = s .low; high = s .high; blank = s .blank; marked = λ h. e }
+
+  pub search-ends : (at : ℕ) → Searched marks from to at → to ≤ at → FirstMarked marks from to at
+  search-ends at s h = record { low = s .low; high = s .high; blank = s .blank; marked = λ l. absurd (omega arith) }
+
+  -- what is found from `at` on is found from `from` on
+  pub search-joins : (at r : ℕ) → Searched marks from to at → FirstMarked marks at to r → FirstMarked marks from to r
+  search-joins at r s f = record {
+    low = omega (arith, s .low, f .low);
+    high = f .high;
+    blank = λ i a b. go i a b (decLt i at);
+    marked = f .marked;
+  }
+    where
+      go : (i : ℕ) → from ≤ i → i < r → Dec (i < at) → getD marks i false ≡ false
+      go i a b (yes l) = s .blank i a l
+      go i a b (no l) = f .blank i (omega arith) b
+
+-- eight places that aren't marked, one by one
+pub eight-blank : (marks : List Bool) (at : ℕ) → isBlank marks at ≡ true → (i : ℕ) → at ≤ i → i < at + 8 → getD marks i false ≡ false
+eight-blank marks at h i l r =
+    let a = neither _ _ (not-true _ h) in
+    let b = neither _ _ (a .1) in
+    let c = neither _ _ (b .1) in
+    let d = neither _ _ (c .1) in
+    let e = neither _ _ (d .1) in
+    let f = neither _ _ (e .1) in
+    let g = neither _ _ (f .1) in
+    let q : at + (i - at) ≡ i = omega arith in
+    ap (λ (k : ℕ). getD marks k false) (sym q) ∙ go (i - at) (omega arith) (a .0) (b .0) (c .0) (d .0) (e .0) (f .0) (g .0) (g .1)
+  where
+    go : (k : ℕ) → k < 8 → getD marks at false ≡ false → getD marks (at + 1) false ≡ false → getD marks (at + 2) false ≡ false
+        → getD marks (at + 3) false ≡ false → getD marks (at + 4) false ≡ false → getD marks (at + 5) false ≡ false
+        → getD marks (at + 6) false ≡ false → getD marks (at + 7) false ≡ false → getD marks (at + k) false ≡ false
+    go zero l a b c d e f g h = ap (λ (k : ℕ). getD marks k false) (omega arith) ∙ a
+    go (suc zero) l a b c d e f g h = b
+    go (suc (suc zero)) l a b c d e f g h = c
+    go (suc (suc (suc zero))) l a b c d e f g h = d
+    go (suc (suc (suc (suc zero)))) l a b c d e f g h = e
+    go (suc (suc (suc (suc (suc zero))))) l a b c d e f g h = f
+    go (suc (suc (suc (suc (suc (suc zero)))))) l a b c d e f g h = g
+    go (suc (suc (suc (suc (suc (suc (suc zero))))))) l a b c d e f g h = h
+    go (suc (suc (suc (suc (suc (suc (suc (suc k)))))))) l a b c d e f g h = absurd (omega arith)
+
+-- a day set goes on over places that don't pass
+module _ (p : ℕ → Bool) (end : ℕ) (xs b₀ b : List ℕ) (count : ℕ) where
+  fill-on : (n place : ℕ) → place + n ≤ end → ((i : ℕ) → place ≤ i → i < place + n → p i ≡ false) → Filling p end xs b₀ b count place
+      → Filling p end xs b₀ b count (place + n)
+  fill-on zero place h f x = let q : place + 0 ≡ place = omega arith in rw q x
+  fill-on (suc n) place h f x =
+      let q : place + 1 + n ≡ place + suc n = omega arith in
+      let y = fill-on n (place + 1) (omega arith) (λ i a l. f i (omega arith) (omega arith)) (fill-no p end xs b₀ b count place (omega arith) (f place (omega arith) (omega arith)) x) in
+      rw q at y
+
+  pub fill-skips : (place r : ℕ) → place ≤ r → r ≤ end → ((i : ℕ) → place ≤ i → i < r → p i ≡ false) → Filling p end xs b₀ b count place
+      → Filling p end xs b₀ b count r
+  fill-skips place r l h f x =
+      let q : place + (r - place) ≡ r = omega arith in
+      let y = fill-on (r - place) place (omega arith) (λ i a b. f i a (omega arith)) x in
+      rw q at y
