@@ -8,6 +8,8 @@ mod core;
 mod error;
 #[path = "../iter/mod.rs"]
 mod iter;
+#[path = "../numbered.rs"]
+mod numbered;
 #[path = "../parser/mod.rs"]
 mod parser;
 #[path = "../validator/mod.rs"]

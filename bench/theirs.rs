@@ -1,29 +1,10 @@
 //! The Rust crate: its iterator without the limit of rounds, and its public way.
 
-use crate::core::{Frequency, NWeekday, RRule, RRuleSet, Tz};
+use crate::core::{NWeekday, RRule, RRuleSet, Tz};
 use crate::iter::RRuleIter;
+use crate::numbered::{FREQUENCIES, WEEKDAYS};
 use crate::rules::{Listed, Rule, LAST, START};
-use chrono::{DateTime, NaiveDateTime, TimeZone, Weekday};
-
-const FREQUENCIES: [Frequency; 7] = [
-    Frequency::Yearly,
-    Frequency::Monthly,
-    Frequency::Weekly,
-    Frequency::Daily,
-    Frequency::Hourly,
-    Frequency::Minutely,
-    Frequency::Secondly,
-];
-
-const WEEKDAYS: [Weekday; 7] = [
-    Weekday::Mon,
-    Weekday::Tue,
-    Weekday::Wed,
-    Weekday::Thu,
-    Weekday::Fri,
-    Weekday::Sat,
-    Weekday::Sun,
-];
+use chrono::{DateTime, NaiveDateTime, TimeZone};
 
 fn start() -> DateTime<Tz> {
     let time = NaiveDateTime::from_timestamp_opt(START as i64, 0).expect("the start is a date");

@@ -5,6 +5,7 @@
 mod core;
 mod error;
 mod iter;
+mod numbered;
 mod parser;
 mod validator;
 
@@ -15,6 +16,7 @@ pub use error::{ParseError, RRuleError, ValidationError};
 pub use iter::RRuleSetIter;
 
 use crate::iter::rrule_iter::WasLimited;
+use crate::numbered::{FREQUENCIES, WEEKDAYS};
 use chrono::{DateTime, NaiveDateTime, TimeZone};
 use std::io::{BufRead, Write};
 use std::panic::{catch_unwind, AssertUnwindSafe};
@@ -22,26 +24,6 @@ use std::str::FromStr;
 use std::time::Instant;
 
 const LAST_INSTANT: i64 = 253_402_300_799;
-
-const FREQUENCIES: [Frequency; 7] = [
-    Frequency::Yearly,
-    Frequency::Monthly,
-    Frequency::Weekly,
-    Frequency::Daily,
-    Frequency::Hourly,
-    Frequency::Minutely,
-    Frequency::Secondly,
-];
-
-const WEEKDAYS: [Weekday; 7] = [
-    Weekday::Mon,
-    Weekday::Tue,
-    Weekday::Wed,
-    Weekday::Thu,
-    Weekday::Fri,
-    Weekday::Sat,
-    Weekday::Sun,
-];
 
 /// What a line asks for: the rule's words, and the oracle's own.
 struct Job {
