@@ -181,37 +181,31 @@ static void try_check(void)
     }
 }
 
-/* A record's bytes and their length: good, changed, cut or noise. `kind` is 0 where they are good. */
-static size_t random_record(uint8_t *bytes, unsigned which, unsigned *kind)
+/* The bytes of a record or a cursor and their length: good, changed, cut or noise. `kind` is 0 where they are good. */
+static size_t random_of(const uint8_t *good, size_t length, uint8_t *bytes, unsigned *kind)
 {
     *kind = below(8) < 5 ? 0 : 1 + below(3);
-    memcpy(bytes, pool[which], YOMAVELUDGE_RECORD_LENGTH);
+    memcpy(bytes, good, length);
     if (*kind == 1) {
-        change(bytes, YOMAVELUDGE_RECORD_LENGTH);
+        change(bytes, length);
     }
     if (*kind == 2) {
-        return below(YOMAVELUDGE_RECORD_LENGTH);
+        return below((unsigned)length);
     }
     if (*kind == 3) {
-        add_noise(bytes, YOMAVELUDGE_RECORD_LENGTH);
+        add_noise(bytes, length);
     }
-    return YOMAVELUDGE_RECORD_LENGTH;
+    return length;
+}
+
+static size_t random_record(uint8_t *bytes, unsigned which, unsigned *kind)
+{
+    return random_of(pool[which], YOMAVELUDGE_RECORD_LENGTH, bytes, kind);
 }
 
 static size_t random_cursor(uint8_t *bytes, unsigned which, unsigned *kind)
 {
-    *kind = below(8) < 5 ? 0 : 1 + below(3);
-    memcpy(bytes, cursors[which], YOMAVELUDGE_CURSOR_LENGTH);
-    if (*kind == 1) {
-        change(bytes, YOMAVELUDGE_CURSOR_LENGTH);
-    }
-    if (*kind == 2) {
-        return below(YOMAVELUDGE_CURSOR_LENGTH);
-    }
-    if (*kind == 3) {
-        add_noise(bytes, YOMAVELUDGE_CURSOR_LENGTH);
-    }
-    return YOMAVELUDGE_CURSOR_LENGTH;
+    return random_of(cursors[which], YOMAVELUDGE_CURSOR_LENGTH, bytes, kind);
 }
 
 static void try_fresh(unsigned which)
