@@ -2,7 +2,7 @@
 -- Assumes nothing.
 use mathlib.Core.Path.{_≡_, refl, sym, _∙_, ap}
 use mathlib.Core.Bool.{Bool, true, false, _&&_}
-use Prim.Native.Nat.{ℕ, zero, suc, _+_, _-_, _≤_, _<_, min}
+use Prim.Native.Nat.{ℕ, zero, suc, _+_, _-_, _*_, _/_, _≤_, _<_, min}
 use native.Mathlib.Omega.{arith}
 use native.Mathlib.Nat.{mod-eq-of-lt}
 use native.Mathlib.Decide.{decLe}
@@ -13,7 +13,7 @@ use lib.Dec.{eqb, leb}
 use borrow.Author.Tests.{eqb-true, leb-true, le-ltb, lt-ltb}
 use Rattle.calendar.specs.Calendar.{if_then_else_, leap, daysOf, newYear, monthLengths, monthLength, total, daysBeforeMonth, firstOf, MonthDay, monthDayOf, noDay, tableDay}
 use Rattle.calendar.specs.Claims.{MonthsFollow, DecemberEnds}
-use Rattle.calendar.proofs.Table.{same-below}
+use Rattle.calendar.proofs.Table.{same-below, same-from}
 use Rattle.calendar.proofs.Years.{years-follow}
 
 pub next-month : (long : Bool) (m : ℕ) → m ≤ 12 → daysBeforeMonth long (m + 1) ≡ daysBeforeMonth long m + monthLength long m
@@ -102,3 +102,34 @@ past-table long n h = rw (le-ltb _ _ h, tableDay)
 pub in-year : (long : Bool) (n : ℕ) → n < daysOf long → tableDay long n ≡ monthDayOf long n
 unfolding tableDay
 in-year long n h = rw (lt-ltb n (daysOf long + 7) (omega arith), mod-eq-of-lt h, tableDay)
+
+-- ---- the month of a place, reckoned from 1 March
+
+abbrev monthIn : Bool → ℕ → ℕ
+monthIn long n = tableDay long n .month
+
+pub january : (long : Bool) (n : ℕ) → n < 31 → 1 ≡ tableDay long n .month
+unfolding tableDay
+january true n h = same-below (λ (n : ℕ). 1) (monthIn true) 0 31 refl n h
+january false n h = same-below (λ (n : ℕ). 1) (monthIn false) 0 31 refl n h
+
+pub february : (long : Bool) (n : ℕ) → 31 ≤ n → n < daysBeforeMonth long 3 → 2 ≡ tableDay long n .month
+unfolding tableDay daysBeforeMonth
+february true n l h = let e : 31 + (n - 31) ≡ n = omega arith in same-from (λ (n : ℕ). 2) (monthIn true) 0 31 29 refl (n - 31) (omega arith) ∙ ap (monthIn true) e
+february false n l h = let e : 31 + (n - 31) ≡ n = omega arith in same-from (λ (n : ℕ). 2) (monthIn false) 0 31 28 refl (n - 31) (omega arith) ∙ ap (monthIn false) e
+
+-- from March on, five months in a row have 153 days
+pub from-march : (long : Bool) (k : ℕ) → k < 306 → (5 * k + 2) / 153 + 3 ≡ tableDay long (daysBeforeMonth long 3 + k) .month
+unfolding tableDay daysBeforeMonth
+from-march true k h = let e : 60 + k - 60 ≡ k = omega arith in ap (λ (x : ℕ). (5 * x + 2) / 153 + 3) (sym e) ∙ same-from (λ (n : ℕ). (5 * (n - 60) + 2) / 153 + 3) (monthIn true) 0 60 306 refl k h
+from-march false k h = let e : 59 + k - 59 ≡ k = omega arith in ap (λ (x : ℕ). (5 * x + 2) / 153 + 3) (sym e) ∙ same-from (λ (n : ℕ). (5 * (n - 59) + 2) / 153 + 3) (monthIn false) 0 59 306 refl k h
+
+pub next-january : (long : Bool) (k : ℕ) → 306 ≤ k → k < 313 → 1 ≡ tableDay long (daysBeforeMonth long 3 + k) .month
+unfolding tableDay daysBeforeMonth
+next-january true k l h = let e : 366 + (k - 306) ≡ 60 + k = omega arith in same-from (λ (n : ℕ). 1) (monthIn true) 0 366 7 refl (k - 306) (omega arith) ∙ ap (monthIn true) e
+next-january false k l h = let e : 365 + (k - 306) ≡ 59 + k = omega arith in same-from (λ (n : ℕ). 1) (monthIn false) 0 365 7 refl (k - 306) (omega arith) ∙ ap (monthIn false) e
+
+pub tables-end : (long : Bool) → daysBeforeMonth long 3 + 313 ≡ daysOf long + 7
+unfolding daysBeforeMonth
+tables-end true = refl
+tables-end false = refl

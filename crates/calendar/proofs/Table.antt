@@ -22,3 +22,7 @@ tab-at f d n k h = tab-from f d n 0 k h ∙ ap f (zero-add k)
 -- two functions with one table are equal at each of its places
 pub same-below : {A : Type 0} (f g : ℕ → A) (d : A) (n : ℕ) → tab f 0 n ≡ tab g 0 n → (k : ℕ) → k < n → f k ≡ g k
 same-below f g d n e k h = sym (tab-at f d n k h) ∙ ap (λ (l : List _). getD l k d) e ∙ tab-at g d n k h
+
+-- the same from a place on
+pub same-from : {A : Type 0} (f g : ℕ → A) (d : A) (i n : ℕ) → tab f i n ≡ tab g i n → (k : ℕ) → k < n → f (i + k) ≡ g (i + k)
+same-from f g d i n e k h = sym (tab-from f d n i k h) ∙ ap (λ (l : List _). getD l k d) e ∙ tab-from g d n i k h

@@ -23,6 +23,22 @@ pub fn month_at(long: bool, place: usize) -> u8
     }
 }
 
+// The same, reckoned from 1 March, after which five months in a row have 153 days: the compiled code copies the whole table to read one
+// number of it, and the month is asked for day after day.
+pub fn month_of_place(long: bool, place: usize) -> u8
+    ensures { λ r. ⌜ r ≡ tableDay long place .month ⌝ }
+{
+    let march = days_before_month(long, 3) as usize;
+    if place < march {
+        return if place < 31 { 1 } else { 2 };
+    }
+    let past = place - march;
+    if past < 306 {
+        return ((5 * past + 2) / 153 + 3) as u8;
+    }
+    if past < 313 { 1 } else { 0 }
+}
+
 // Its day of the month; 0 past the table.
 pub fn month_day_at(long: bool, place: usize) -> u8
     ensures { λ r. ⌜ r ≡ tableDay long place .day ⌝ }

@@ -57,7 +57,7 @@ pub(crate) fn is_filtered_by_month(
     if !asked {
         return false;
     }
-    let month = masks::month_at(long, place) as usize;
+    let month = masks::month_of_place(long, place) as usize;
     !bymonth[month - 1]
 }
 
