@@ -7,6 +7,7 @@ use mathlib.Core.List.{List}
 use native.Mathlib.Nat.{mul-le-mul, zero-div, div-le-self, div-mul-le-self}
 use native.Mathlib.Omega.{arith}
 use borrow.Author.Tests.{ltb-true, leb-true, lt-ltb, le-leb}
+use Rattle.calendar.specs.Calendar.{if_then_else_}
 use Rattle.machine.specs.Given.{Move.To}
 use Rattle.rule.specs.declared.rrule.Frequency.{Frequency}
 use Rattle.rule.specs.Filling.{isBelow}
@@ -14,7 +15,7 @@ use Rattle.rule.specs.Moves.{ticks}
 use Rattle.periods.specs.declared.counter_date.Counter.{Counter}
 use Rattle.periods.specs.declared.counter_date.Reached.{Reached}
 use Rattle.periods.specs.Counters.{stepOf, limitOf}
-use Rattle.moves.specs.Increments.{ahead, skipped, firstTick, landing, below, arrive, stands, incremented}
+use Rattle.moves.specs.Increments.{ahead, skipped, firstTick, landing, below, arrive, fits, stands, incremented}
 use Rattle.moves.proofs.Ahead.{day-is, ahead-is, ahead-tick, ahead-none, ahead-k}
 use Rattle.moves.proofs.Searches.{arrived, search-later}
 
@@ -95,28 +96,39 @@ module _ (perday step : ℕ) (c : Counter) (h : c .tick < perday) where
       (omega arith, omega arith, rw e (ahead-tick perday step (omega arith) c n))
 
 -- ---- the counters that a move starts from
-pub record Stands (freq : Frequency) (interval : ℕ) (c : Counter) : Type 0 where
+pub record Fits (limit perday interval : ℕ) (c : Counter) : Type 0 where
   pub some : 1 ≤ interval
   pub near : c .k ≤ 1099511627776
-  pub inside : c .number < limitOf freq
-  pub tick : c .tick < ticks freq
+  pub inside : c .number < limit
+  pub tick : c .tick < perday
+
+abbrev pub Stands : Frequency → ℕ → Counter → Type 0
+Stands freq interval c = Fits (limitOf freq) (ticks freq) interval c
 
 and-both : (a b : Bool) → (a && b) ≡ true → (a ≡ true) × (b ≡ true)
 and-both true b e = (refl, e)
 and-both false b e = absurd (let z : _≡_ {A = ℕ} 0 1 = cc in omega arith)
 
+pub does-fit : (limit perday interval : ℕ) (c : Counter) → fits limit perday interval c ≡ true → Fits limit perday interval c
+does-fit limit perday interval c e =
+    let x = and-both _ _ e in
+    let y = and-both _ _ (x .0) in
+    let z = and-both _ _ (y .0) in
+    record { some = ltb-true _ _ (z .0); near = leb-true _ _ (z .1); inside = ltb-true _ _ (y .1); tick = ltb-true _ _ (x .1) }
+
 module _ (freq : Frequency) (interval : ℕ) (c : Counter) where
   pub does-stand : stands freq interval c ≡ true → Stands freq interval c
   unfolding stands
-  does-stand e =
-      let x = and-both _ _ e in
-      let y = and-both _ _ (x .0) in
-      let z = and-both _ _ (y .0) in
-      record { some = ltb-true _ _ (z .0); near = leb-true _ _ (z .1); inside = ltb-true _ _ (y .1); tick = ltb-true _ _ (x .1) }
+  does-stand e = does-fit (limitOf freq) (ticks freq) interval c e
 
   pub is-standing : Stands freq interval c → stands freq interval c ≡ true
   unfolding stands
   is-standing s = rw (lt-ltb _ _ (s .some), le-leb _ _ (s .near), lt-ltb _ _ (s .inside), lt-ltb _ _ (s .tick))
+
+  -- it fits where it stands, by its own limit and ticks
+  pub fits-is : (limit perday : ℕ) → limitOf freq ≡ limit → ticks freq ≡ perday → fits limit perday interval c ≡ stands freq interval c
+  unfolding stands
+  fits-is limit perday l t = rw (l, t)
 
   module _ (passes : Bool) (clock : List Bool) where
     abbrev moved : Reached
@@ -155,6 +167,15 @@ module _ (freq : Frequency) (interval : ℕ) (c : Counter) where
         ∙ ap (arrive freq step c) (sym (lands-first _ f))
         ∙ moves e
 
+    -- from whatever counter
+    pub by-coarse : (by limit : ℕ) → isBelow Frequency.Daily freq ≡ false → ticks freq ≡ 1 → step ≡ by → limitOf freq ≡ limit
+        → (if fits limit 1 interval c then below limit (ahead 1 by c 1) else Reached.Range) ≡ moved
+    by-coarse by limit f t s l = go (fits limit 1 interval c) refl
+      where
+        go : (b : Bool) → fits limit 1 interval c ≡ b → (if b then below limit (ahead 1 by c 1) else Reached.Range) ≡ moved
+        go true e = by-period by limit (sym (fits-is limit 1 l t) ∙ e) f t s l
+        go false e = stays (sym (fits-is limit 1 l t) ∙ e)
+
     -- below it: so many days and ticks are a step
     pub by-tick : (perday days hop : ℕ) (from : Counter) → stands freq interval c ≡ true
         → isBelow Frequency.Daily freq ≡ true → perday ≡ ticks freq → step ≡ interval
@@ -170,9 +191,6 @@ module _ (freq : Frequency) (interval : ℕ) (c : Counter) where
 
 -- what a counter that stands asks of a step
 module _ (freq : Frequency) (interval : ℕ) (c : Counter) (e : stands freq interval c ≡ true) where
-  pub period-fits : (by : ℕ) → ticks freq ≡ 1 → by ≤ 458745 → (c .k ≤ 1099511627776) × (c .number ≤ 3652059) × (c .tick ≡ 0) × (by ≤ 458745)
-  period-fits by t h = let s : Stands freq interval c = does-stand freq interval c e in (omega arith, omega (arith, limit-fits freq), omega arith, h)
-
   pub tick-fits : (perday : ℕ) → perday ≡ ticks freq → (c .k ≤ 1099511627776) × (c .tick < perday) × (perday ≤ 86400) × (1 ≤ interval)
   tick-fits perday t = let s : Stands freq interval c = does-stand freq interval c e in (omega arith, omega arith, omega (arith, ticks-fit freq), omega arith)
 
@@ -183,3 +201,8 @@ module _ (freq : Frequency) (interval : ℕ) (c : Counter) (e : stands freq inte
   search-fits perday days hop passes d t l a b g =
       let s : Stands freq interval c = does-stand freq interval c e in
       ((t, l, a, b), off-fits perday interval c (omega arith) passes d g (omega arith) (omega arith) (omega (arith, ticks-fit freq)))
+
+-- and what one down to DAILY asks of it
+pub period-fits : (limit interval : ℕ) (c : Counter) (by : ℕ) → fits limit 1 interval c ≡ true → limit ≤ 3652059 → by ≤ 458745
+    → (c .k ≤ 1099511627776) × (c .number ≤ 3652059) × (c .tick ≡ 0) × (by ≤ 458745)
+period-fits limit interval c by e l h = let s : Fits limit 1 interval c = does-fit limit 1 interval c e in (omega arith, omega arith, omega arith, h)

@@ -59,10 +59,14 @@ arrive freq step c (To n) = below (limitOf freq) (ahead (ticks freq) step c n)
 arrive freq step c NoTick = Reached.NoTick
 arrive freq step c Range = Reached.Range
 
--- Whether a period in range may have this counter, where INTERVAL is at least 1. Its k is at most 2^40, as each period takes a second or more.
+-- Whether a counter may be that of a period in range, where INTERVAL is at least 1, numbers stay below a limit and a day has so many periods.
+-- Its k is at most 2^40, as each period takes a second or more.
+abbrev pub fits : (limit perday interval : ℕ) → Counter → Bool
+fits limit perday interval c = ltb 0 interval && leb (c .k) 1099511627776 && ltb (c .number) limit && ltb (c .tick) perday
+
 unfoldable pub stands : Frequency → ℕ → Counter → Bool
 unfolding limitOf
-stands freq interval c = ltb 0 interval && leb (c .k) 1099511627776 && ltb (c .number) (limitOf freq) && ltb (c .tick) (ticks freq)
+stands freq interval c = fits (limitOf freq) (ticks freq) interval c
 
 -- The move from a counter, whose day passes or not. From what is no counter of a period in range, Range.
 unfoldable pub incremented : Frequency → ℕ → Counter → Bool → List Bool → Reached

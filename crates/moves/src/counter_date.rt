@@ -3,53 +3,25 @@ use periods::counter_date::Counter;
 use periods::counter_date::Reached;
 use rule::rrule::Frequency;
 ghost use mathlib.Core.Path.{_≡_};
-ghost use mathlib.Core.Bool.{true, false};
+ghost use mathlib.Core.Bool.{false};
 ghost use Prim.Native.Nat.{_+_, _-_, _*_, _/_, _%_, _<_, _≤_};
 ghost use Rattle.rule.specs.Moves.{ticks};
 ghost use Rattle.periods.specs.Counters.{limitOf};
-ghost use Rattle.moves.specs.Increments.{tickIsIn, ahead, skipped, firstTick, below, arrive, stands, incremented};
+ghost use Rattle.calendar.specs.Calendar.{if_then_else_};
+ghost use Rattle.periods.specs.declared.counter_date.Reached.{Reached};
+ghost use Rattle.moves.specs.Increments.{tickIsIn, ahead, skipped, firstTick, below, arrive, fits, incremented};
 
 // The day after 9999.
 const RANGE_END: u64 = 3652059;
 
-// How many periods a day has.
-fn ticks_of(freq: Frequency) -> u64
-    ensures { λ r. ⌜ r ≡ ticks freq ⌝ }
-{
-    match freq {
-        Frequency::Yearly => 1,
-        Frequency::Monthly => 1,
-        Frequency::Weekly => 1,
-        Frequency::Daily => 1,
-        Frequency::Hourly => 24,
-        Frequency::Minutely => 1440,
-        Frequency::Secondly => 86400,
-    }
-}
-
-// The first number whose period begins after 9999.
-fn limit_of(freq: Frequency) -> u64
-    ensures { λ r. ⌜ r ≡ limitOf freq ⌝ }
-{
-    match freq {
-        Frequency::Yearly => 10000,
-        Frequency::Monthly => 120000,
-        Frequency::Weekly => RANGE_END,
-        Frequency::Daily => RANGE_END,
-        Frequency::Hourly => RANGE_END,
-        Frequency::Minutely => RANGE_END,
-        Frequency::Secondly => RANGE_END,
-    }
-}
-
-// Whether a period in range may have this counter.
-fn can_move(freq: Frequency, interval: u16, counter: Counter) -> bool
-    ensures { λ r. ⌜ r ≡ stands freq interval counter ⌝ }
+// Whether a counter may be that of a period in range, where numbers stay below a limit and a day has so many periods.
+fn can_move(interval: u64, counter: Counter, limit: u64, perday: u64) -> bool
+    ensures { λ r. ⌜ r ≡ fits limit perday interval counter ⌝ }
 {
     (0 < interval)
         & (counter.k <= 1099511627776)
-        & (counter.number < limit_of(freq))
-        & (counter.tick < ticks_of(freq))
+        & (counter.number < limit)
+        & (counter.tick < perday)
 }
 
 // The counter, where its period begins in range.
@@ -108,6 +80,17 @@ fn next_period(counter: Counter, step: u64, limit: u64) -> Reached
         },
         limit,
     )
+}
+
+// Down to DAILY: the next period.
+fn increment_coarse(interval: u64, counter: Counter, step: u64, limit: u64) -> Reached
+    requires { ⌜ (step ≤ 458745) × (limit ≤ 3652059) ⌝ }
+    ensures { λ r. ⌜ r ≡ (if fits limit 1 interval counter then below limit (ahead 1 step counter 1) else Reached.Range) ⌝ }
+{
+    if !can_move(interval, counter, limit, 1) {
+        return Reached::Range;
+    }
+    next_period(counter, step, limit)
 }
 
 // How many more periods a day has.
@@ -196,9 +179,12 @@ fn next_tick(
 
 // HOURLY: a day has 24 periods.
 fn increment_hourly(interval: u64, counter: Counter, passes: bool, clock: &[bool; 144]) -> Reached
-    requires { ⌜ (stands Frequency.Hourly interval counter ≡ true) × (interval ≤ 65535) ⌝ }
+    requires { ⌜ interval ≤ 65535 ⌝ }
     ensures { λ r. ⌜ r ≡ incremented Frequency.Hourly interval counter passes (now (clock .entry)) ⌝ }
 {
+    if !can_move(interval, counter, RANGE_END, 24) {
+        return Reached::Range;
+    }
     let from = set_off(counter, passes, 24, interval);
     next_tick(
         Frequency::Hourly,
@@ -212,9 +198,12 @@ fn increment_hourly(interval: u64, counter: Counter, passes: bool, clock: &[bool
 
 // MINUTELY: a day has 1,440 periods.
 fn increment_minutely(interval: u64, counter: Counter, passes: bool, clock: &[bool; 144]) -> Reached
-    requires { ⌜ (stands Frequency.Minutely interval counter ≡ true) × (interval ≤ 65535) ⌝ }
+    requires { ⌜ interval ≤ 65535 ⌝ }
     ensures { λ r. ⌜ r ≡ incremented Frequency.Minutely interval counter passes (now (clock .entry)) ⌝ }
 {
+    if !can_move(interval, counter, RANGE_END, 1440) {
+        return Reached::Range;
+    }
     let from = set_off(counter, passes, 1440, interval);
     next_tick(
         Frequency::Minutely,
@@ -228,9 +217,12 @@ fn increment_minutely(interval: u64, counter: Counter, passes: bool, clock: &[bo
 
 // SECONDLY: a day has 86,400 periods, more than INTERVAL can be.
 fn increment_secondly(interval: u64, counter: Counter, passes: bool, clock: &[bool; 144]) -> Reached
-    requires { ⌜ (stands Frequency.Secondly interval counter ≡ true) × (interval ≤ 65535) ⌝ }
+    requires { ⌜ interval ≤ 65535 ⌝ }
     ensures { λ r. ⌜ r ≡ incremented Frequency.Secondly interval counter passes (now (clock .entry)) ⌝ }
 {
+    if !can_move(interval, counter, RANGE_END, 86400) {
+        return Reached::Range;
+    }
     let from = set_off(counter, passes, 86400, interval);
     next_tick(Frequency::Secondly, 86400, 0, interval, from, clock)
 }
@@ -245,15 +237,12 @@ pub fn increment(
 ) -> Reached
     ensures { λ r. ⌜ r ≡ incremented freq interval counter passes (now (clock .entry)) ⌝ }
 {
-    if !can_move(freq, interval, counter) {
-        return Reached::Range;
-    }
     let step = interval as u64;
     match freq {
-        Frequency::Yearly => next_period(counter, step, 10000),
-        Frequency::Monthly => next_period(counter, step, 120000),
-        Frequency::Weekly => next_period(counter, 7 * step, RANGE_END),
-        Frequency::Daily => next_period(counter, step, RANGE_END),
+        Frequency::Yearly => increment_coarse(step, counter, step, 10000),
+        Frequency::Monthly => increment_coarse(step, counter, step, 120000),
+        Frequency::Weekly => increment_coarse(step, counter, 7 * step, RANGE_END),
+        Frequency::Daily => increment_coarse(step, counter, step, RANGE_END),
         Frequency::Hourly => increment_hourly(step, counter, passes, clock),
         Frequency::Minutely => increment_minutely(step, counter, passes, clock),
         Frequency::Secondly => increment_secondly(step, counter, passes, clock),

@@ -1,22 +1,40 @@
 -- `moves::counter_date::increment_secondly` meets its contract.
 -- Assumes nothing.
-use mathlib.Core.Path.{refl, _∙_}
+use mathlib.Core.Path.{_≡_, refl, sym, _∙_}
+use mathlib.Core.Bool.{true}
 use native.Mathlib.Omega.{arith}
+use borrow.Author.Needs.{needs}
+use borrow.Author.Tests.{not-true, not-false}
+use Rattle.rule.specs.declared.rrule.Frequency.{Frequency}
 use Rattle.periods.specs.Counters.{stepOf, limitOf}
-use Rattle.moves.proofs.Steps.{by-tick, tick-fits, search-fits}
+use Rattle.moves.specs.Increments.{stands}
+use Rattle.moves.proofs.Steps.{fits-is, stays, by-tick, tick-fits, search-fits}
 use Rattle.moves.proofs.counter_date.increment_secondly.Statement.{statement}
 use Rattle.moves.proofs.counter_date.increment_secondly.Tie as tie
 
+-- past the guard the counter stands
+stood : (c : tie.Else1) → let a = c .before .before .args in stands Frequency.Secondly (a .interval) (a .counter) ≡ true
+unfolding limitOf
+stood c = sym (fits-is Frequency.Secondly (c .before .before .args .interval) (c .before .before .args .counter) 3652059 86400 refl refl) ∙ sym (c .before .can-move .ensures) ∙ not-false _ (c .if1 .left)
+
+can-move-requires : tie.Need-can-move-requires
+can-move-requires c κs = search needs
+
+returns : tie.Need-returns
+unfolding limitOf
+returns c = stays _ _ _ _ _ (sym (fits-is Frequency.Secondly (c .before .before .args .interval) (c .before .before .args .counter) 3652059 86400 refl refl) ∙ sym (c .before .can-move .ensures) ∙ not-true _ (c .if1 .taken))
+
 set-off-requires : tie.Need-set-off-requires
-set-off-requires c κs = tick-fits _ _ _ (c .pre .0) 86400 refl
+set-off-requires c κs = tick-fits _ _ _ (stood c) 86400 refl
 
 next-tick-requires : tie.Need-next-tick-requires
 unfolding limitOf
-next-tick-requires c κs = search-fits _ _ _ (c .before .pre .0) 86400 _ _ _ _ refl refl (omega arith) (omega arith) (c .set-off .ensures)
+next-tick-requires c κs = search-fits _ _ _ (stood (c .before)) 86400 _ _ _ _ refl refl (omega arith) (omega arith) (c .set-off .ensures)
 
-returns : tie.Need-returns
+returns-2 : tie.Need-returns-2
 unfolding stepOf
-returns c = c .next-tick .ensures ∙ by-tick _ _ _ _ _ 86400 0 _ _ (c .before .before .pre .0) refl refl refl (omega arith) (c .before .set-off .ensures)
+returns-2 c = c .next-tick .ensures ∙ by-tick _ _ _ _ _ 86400 0 _ _ (stood (c .before .before)) refl refl refl (omega arith) (c .before .set-off .ensures)
 
 pub increment-secondly-spec : {M : Type 1} → statement M
-increment-secondly-spec = tie.close (tie.spec set-off-requires next-tick-requires returns)
+increment-secondly-spec =
+    tie.close (tie.spec can-move-requires returns set-off-requires next-tick-requires returns-2)
