@@ -7,6 +7,7 @@ use mathlib.Core.List.{List, [], _∷_}
 use mathlib.Core.Logic.{_⊎_, inl, inr}
 use lib.ListN.{length, set, drop, length-set}
 use lib.Dec.{eqb, ltb}
+use native.Mathlib.Nat.{zero-mul}
 use native.Mathlib.Omega.{arith}
 use native.Mathlib.Decide.{decLt, ℕ-discrete}
 use borrow.Author.Tests.{eqb-true, eqb-false, eq-eqb, ne-eqb}
@@ -29,7 +30,9 @@ use Rattle.walks.specs.Walks.{givenBy, nowOf, walkedBy, tabled, walkFrom, daysW
 use Rattle.rule.proofs.GivenLaws.{neither}
 use Rattle.walks.specs.Passing.{passedDays}
 use Rattle.walks.proofs.Passing.{passed-holds, passed-walks}
-use Rattle.listing.specs.Opening.{secondKept}
+use Rattle.positions.specs.Places.{keptPlaces, over}
+use Rattle.positions.proofs.PlaceLaws.{places-below}
+use Rattle.listing.specs.Opening.{frameOf, keptCount, chosenOver, keptBy, chosenBy, secondKept}
 use Rattle.settling.specs.declared.rrule_iter.Settled.{Settled}
 use Rattle.settling.specs.Settling.{answerOf, movedTo, settledThrough, settled}
 use Rattle.listing.specs.Sound.{Sound}
@@ -240,3 +243,31 @@ by-passed positioned f b h kept days lists places buffer r z p e =
     ap (λ (x : Held). daysWalk f b x days lists buffer) e
     ∙ sym (passed-walks (ltb 0 (h .number) || eqb (h .handed) (length buffer)) f b h days lists buffer (λ q. eqb-false _ _ (neither (ltb 0 (h .number)) (eqb (h .handed) (length buffer)) q .1)) (z .time-high))
     ∙ by-days positioned f b h kept days lists places buffer p (z .kept-is p)
+
+-- ---- where no day passes, nothing is kept and there is nothing to walk over
+none-kept : (bysetpos : List Bool) (n : ℕ) → n ≡ 0 → keptPlaces bysetpos n ≡ []
+none-kept bysetpos n e = go (keptPlaces bysetpos n) refl
+  where
+    go : (l : List ℕ) → keptPlaces bysetpos n ≡ l → l ≡ []
+    go [] q = refl
+    go (x ∷ l) q = absurd (let h = places-below bysetpos n 0 (subst (λ (z : List ℕ). 0 < length z) (sym q) (omega arith)) in omega arith)
+
+module _ (bysetpos : List Bool) (f : Frame) (e : f .days ≡ 0) where
+  none : f .days * f .times ≡ 0
+  none = rw e (zero-mul (f .times))
+
+  pub kept-none : (positioned : Bool) → keptBy positioned bysetpos f ≡ 0
+  unfolding keptCount
+  kept-none true = ap (λ (l : List ℕ). length l) (none-kept bysetpos (f .days * f .times) none)
+  kept-none false = none
+
+  pub chosen-none : (positioned : Bool) (slots : List ℕ) → slots ≡ chosenBy positioned bysetpos f slots
+  unfolding chosenOver over
+  chosen-none true slots = sym (ap (λ (l : List ℕ). over l slots) (none-kept bysetpos (f .days * f .times) none))
+  chosen-none false slots = refl
+
+  pub walked-none : (positioned : Bool) (b : Bounds) (h : Held) (g : ℕ → ℕ) (buffer : List ℕ)
+      → walkedBy (record { why = Why.Through; held = h }) buffer
+      ≡ compute.walk (givenBy b) (tabled g (h .place) (keptBy positioned bysetpos f - h .place)) (nowOf State.Running h buffer)
+  unfolding walkedBy tabled compute.walk
+  walked-none positioned b h g buffer = let z : keptBy positioned bysetpos f - h .place ≡ 0 = omega (arith, kept-none positioned) in rw z

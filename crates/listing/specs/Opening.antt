@@ -50,6 +50,13 @@ unfoldable pub chosenOver : Bool → List Bool → (days times : ℕ) → List �
 unfolding keptPlaces over
 chosenOver positioned bysetpos days times slots = if positioned then over (keptPlaces bysetpos (days * times)) slots else slots
 
+-- the same of a frame
+abbrev pub keptBy : Bool → List Bool → Frame → ℕ
+keptBy positioned bysetpos f = keptCount positioned bysetpos (f .days) (f .times)
+
+abbrev pub chosenBy : Bool → List Bool → Frame → List ℕ → List ℕ
+chosenBy positioned bysetpos f slots = chosenOver positioned bysetpos (f .days) (f .times) slots
+
 -- kept number i, with positions or without
 unfoldable pub secondKept : Bool → Frame → (days lists places : List ℕ) → ℕ → ℕ
 unfolding secondAt secondChosen

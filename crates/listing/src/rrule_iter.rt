@@ -1,11 +1,9 @@
 // The run: a rule's due instants, from a cursor on, into a lent buffer, with a budget of moves.
 use crate::cursors::is_poised;
 use crate::opening::covers;
-use crate::opening::frame_of;
-use crate::opening::kept_of;
 use crate::plan::Plan;
 use crate::plan::plan_of;
-use crate::walking::walk_period;
+use crate::walking::walk_opened;
 use calendar::utils::year_of_day;
 use days::iterinfo::get_dayset;
 use days::iterinfo::rebuild;
@@ -98,30 +96,20 @@ fn run_on(
             &info.nths,
             &mut days,
         );
-        let frame = frame_of(
+        let walked = walk_opened(
             freq,
             plan.counts,
             counter.tick,
             year.first,
             count,
-            &plan.clock,
-        );
-        let kept = kept_of(
             plan.positioned,
-            &rule.bysetpos,
-            frame.days,
-            frame.times,
-            &mut places,
-        );
-        let walked = walk_period(
-            plan.positioned,
-            frame,
             plan.bounds,
             held,
-            kept,
+            &plan.clock,
+            &rule.bysetpos,
             &days,
             &plan.lists,
-            &places,
+            &mut places,
             buffer,
         );
         held = walked.held;
@@ -129,7 +117,7 @@ fn run_on(
             Settled::Stops(answer) => return answer,
             Settled::Moves => {}
         }
-        match increment(freq, plan.interval, counter, 0 < frame.days, &plan.clock) {
+        match increment(freq, plan.interval, counter, 0 < count, &plan.clock) {
             Reached::To(next) => {
                 counter = next;
                 held = moved_to(next.k, held);
