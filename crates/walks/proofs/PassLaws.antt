@@ -52,22 +52,23 @@ not-kept : (full : Bool) (p d t : ℕ) → d ≡ p / t → (full || not (eqb (d 
 not-kept true p d t e h = sym h
 not-kept false p d t e h = sym (at-beginning p d t e) ∙ not-false _ h
 
-pub whole-days : (full : Bool) (p d t : ℕ) → (full || not (eqb (d * t) p)) ≡ false → d * t ≡ p
-whole-days true p d t h = absurd (let z : _≡_ {A = ℕ} 0 1 = cc in omega arith)
-whole-days false p d t h = eqb-true _ _ (not-false _ h)
+-- where the buffer is full, none is passed
+pub full-passes-none : (full : Bool) (f : Frame) (b : Bounds) (h : Held) (days : List ℕ) → full ≡ true → h ≡ passedDays full f b h days
+unfolding passedDays
+full-passes-none full f b h days t = rw (t, passedDays)
 
 -- where the days from number d on lead, of n in all
 unfoldable pub Leads : Bounds → Frame → List ℕ → (n d place : ℕ) → ℕ
 Leads b f days n d place = place + passable b f days d (n - d) * f .times
 
 module _ (full : Bool) (f : Frame) (b : Bounds) (h : Held) (days : List ℕ) (d : ℕ) (e : d ≡ h .place / f .times) where
-  pub none-passed : (full || not (eqb (d * f .times) (h .place))) ≡ true → passedDays full f b h days ≡ h
+  pub none-passed : full ≡ false → (d * f .times ≡ h .place → ⊥) → passedDays full f b h days ≡ h
   unfolding passedDays
-  none-passed t = rw (kept-whole full (h .place) d (f .times) e t, passedDays)
+  none-passed t q = rw (kept-whole full (h .place) d (f .times) e (rw (t, ne-eqb _ _ q)), passedDays)
 
-  pub days-passed : (full || not (eqb (d * f .times) (h .place))) ≡ false → passedDays full f b h days ≡ heldAt h (Leads b f days (f .days) d (h .place))
+  pub days-passed : full ≡ false → d * f .times ≡ h .place → passedDays full f b h days ≡ heldAt h (Leads b f days (f .days) d (h .place))
   unfolding passedDays Leads
-  days-passed t = rw (not-kept full (h .place) d (f .times) e t, passedDays, e)
+  days-passed t q = rw (not-kept full (h .place) d (f .times) e (rw (t, eq-eqb _ _ q)), passedDays, e)
 
 module _ (b : Bounds) (f : Frame) (days : List ℕ) (n d place : ℕ) where
   pub leads-on : d < n → isPassed b (lastOf f days d) ≡ true → Leads b f days n d place ≡ Leads b f days n (d + 1) (place + f .times)

@@ -198,9 +198,12 @@ pub fn pass_days(full: bool, frame: Frame, bounds: Bounds, held: Held, days: &[u
     requires { ⌜ Framed frame ⌝ }
     ensures { λ r. ⌜ r ≡ passedDays full frame bounds held (now (days .entry)) ⌝ }
 {
-    let first_day = quotient(held.place, frame.times);
     let mut at = held;
-    if full | (first_day * frame.times != held.place) {
+    if full {
+        return at;
+    }
+    let first_day = quotient(held.place, frame.times);
+    if first_day * frame.times != held.place {
         return at;
     }
     for day in first_day as usize..frame.days {

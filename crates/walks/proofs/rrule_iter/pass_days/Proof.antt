@@ -11,59 +11,62 @@ use borrow.Author.Tests.{not-true, not-false}
 use Rattle.walks.specs.declared.rrule_iter.Held.{Held}
 use Rattle.walks.specs.Passing.{isPassed, lastOf, heldAt, passedDays}
 use Rattle.walks.proofs.SecondLaws.{next-day}
-use Rattle.walks.proofs.PassLaws.{day-on-fits, whole-days, none-passed, days-passed, Leads, leads-on, leads-off, leads-over}
+use Rattle.walks.proofs.PassLaws.{day-on-fits, full-passes-none, none-passed, days-passed, Leads, leads-on, leads-off, leads-over}
 use Rattle.walks.proofs.rrule_iter.pass_days.Statement.{statement}
 use Rattle.walks.proofs.rrule_iter.pass_days.Tie as tie
 
 abbrev Inv-loop : tie.InvT-loop
-Inv-loop full frame bounds days first-day at₀ day₀ day-end at day =
+Inv-loop full frame bounds days at₀ first-day day₀ day-end at day =
     (at ≡ heldAt at₀ (at .place)) × (at .place ≡ day * frame .times)
     × (Leads bounds frame days (frame .days) day₀ (at₀ .place) ≡ Leads bounds frame days (frame .days) day (at .place))
 
 abbrev μ-loop : tie.MeasureT-loop
-μ-loop full frame bounds days first-day at₀ day₀ day-end at day = frame .days - day
+μ-loop full frame bounds days at₀ first-day day₀ day-end at day = frame .days - day
 
 -- whether the day in hand is passed
 passes : (c : tie.After-is-passed Inv-loop μ-loop) →
     let l = c .before .before .before .before in
-    let a = l .before .before .before .before .before .args in
+    let a = l .before .before .before .before .before .before .args in
     isPassed (a .bounds) (lastOf (a .frame) (a .days .now) (l .loop .day)) ≡ c .is-passed .result
 passes c =
     let l = c .before .before .before .before in
-    let a = l .before .before .before .before .before .args in
+    let a = l .before .before .before .before .before .before .args in
     sym (c .is-passed .ensures ∙ ap (λ (m : ℕ). isPassed (a .bounds) (m + 86399)) (c .before .midnight-of .ensures .0))
 
 -- where the loop has come to is where the days lead
 passed-so : (c : tie.At-loop Inv-loop μ-loop) →
-    let a = c .before .before .before .before .before .args in
+    let a = c .before .before .before .before .before .before .args in
     Leads (a .bounds) (a .frame) (a .days .now) (a .frame .days) (c .loop .day) (c .loop .at .place) ≡ c .loop .at .place
     → c .loop .at ≡ passedDays (a .full) (a .frame) (a .bounds) (a .held) (a .days .now)
 passed-so c e =
     let q = c .before .before .before .before in
-    let a = q .before .args in
+    let a = q .before .before .args in
     c .loop .inv .0
     ∙ ap (λ (p : ℕ). heldAt (a .held) p) (sym (c .loop .inv .2 ∙ e))
-    ∙ sym (days-passed (a .full) (a .frame) (a .bounds) (a .held) (a .days .now) _ (q .quotient .ensures) (c .before .if1 .left))
+    ∙ sym (days-passed (a .full) (a .frame) (a .bounds) (a .held) (a .days .now) _ (q .quotient .ensures) (q .before .if1 .left) (c .before .if2 .left))
+
+returns : tie.Need-returns Inv-loop μ-loop
+returns c = full-passes-none (c .before .args .full) _ _ _ _ (c .if1 .taken)
 
 quotient-requires : tie.Need-quotient-requires Inv-loop μ-loop
 quotient-requires c κs = search needs
 
-mul-if1 : tie.Need-mul-if1 Inv-loop μ-loop
-mul-if1 c =
-    let a = c .before .before .args in
+mul-if2 : tie.Need-mul-if2 Inv-loop μ-loop
+mul-if2 c =
+    let a = c .before .before .before .args in
     rw (c .before .quotient .ensures) (omega (arith, div-mul-le-self (a .held .place) (a .frame .times)))
 
-returns : tie.Need-returns Inv-loop μ-loop
-returns c =
+returns-2 : tie.Need-returns-2 Inv-loop μ-loop
+returns-2 c =
     let q = c .before .before .before in
-    let a = q .before .args in
-    sym (none-passed (a .full) (a .frame) (a .bounds) (a .held) (a .days .now) _ (q .quotient .ensures) (c .if1 .taken))
+    let a = q .before .before .args in
+    sym (none-passed (a .full) (a .frame) (a .bounds) (a .held) (a .days .now) _ (q .quotient .ensures) (q .before .if1 .left) (c .if2 .taken))
 
 cast-day : tie.Need-cast-day Inv-loop μ-loop
 cast-day c = search needs
 
 loop-holds : tie.Need-loop-holds Inv-loop μ-loop
-loop-holds c = (refl, sym (whole-days (c .before .before .before .before .args .full) _ _ _ (c .if1 .left)), refl)
+loop-holds c = (refl, sym (c .if2 .left), refl)
 
 midnight-of-requires : tie.Need-midnight-of-requires Inv-loop μ-loop
 midnight-of-requires c κs = search needs
@@ -78,7 +81,7 @@ add-at : tie.Need-add-at Inv-loop μ-loop
 add-at c =
     let i = c .before .before .before .before .before .before in
     let l = i .before in
-    let p = l .before .before .before .before .before .pre in
+    let p = l .before .before .before .before .before .before .pre in
     day-on-fits _ _ _ _ (p .days) (p .times) (i .loop-test .taken) (l .loop .inv .1)
 
 add-day : tie.Need-add-day Inv-loop μ-loop
@@ -91,21 +94,21 @@ loop-again : tie.Need-loop-again Inv-loop μ-loop
 loop-again c =
     let e = c .before .before in
     let l = e .before .before .before .before .before in
-    let a = l .before .before .before .before .before .args in (
+    let a = l .before .before .before .before .before .before .args in (
       ap (λ (h : Held). heldAt h (l .loop .at .place + a .frame .times)) (l .loop .inv .0),
       rw (next-day (l .loop .day) (a .frame .times), l .loop .inv .1),
-      l .loop .inv .2 ∙ leads-on _ _ _ _ _ _ (e .before .before .before .before .loop-test .taken) (passes (e .before) ∙ not-false _ (e .if2 .left)),
+      l .loop .inv .2 ∙ leads-on _ _ _ _ _ _ (e .before .before .before .before .loop-test .taken) (passes (e .before) ∙ not-false _ (e .if3 .left)),
     )
-
-returns-2 : tie.Need-returns-2 Inv-loop μ-loop
-returns-2 c =
-    let l = c .before in
-    passed-so l (leads-over _ _ _ _ _ _ (c .loop-test .left))
 
 returns-3 : tie.Need-returns-3 Inv-loop μ-loop
 returns-3 c =
+    let l = c .before in
+    passed-so l (leads-over _ _ _ _ _ _ (c .loop-test .left))
+
+returns-4 : tie.Need-returns-4 Inv-loop μ-loop
+returns-4 c =
     let l = c .before .before .before .before .before in
-    passed-so l (leads-off _ _ _ _ _ _ (c .before .before .before .before .loop-test .taken) (passes (c .before) ∙ not-true _ (c .if2 .taken)))
+    passed-so l (leads-off _ _ _ _ _ _ (c .before .before .before .before .loop-test .taken) (passes (c .before) ∙ not-true _ (c .if3 .taken)))
 
 pub pass-days-spec : {M : Type 1} → statement M
 pass-days-spec =
@@ -113,9 +116,10 @@ pass-days-spec =
     (tie.spec
     Inv-loop
     μ-loop
-    quotient-requires
-    mul-if1
     returns
+    quotient-requires
+    mul-if2
+    returns-2
     cast-day
     loop-holds
     midnight-of-requires
@@ -125,5 +129,5 @@ pass-days-spec =
     add-day
     loop-less
     loop-again
-    returns-2
-    returns-3)
+    returns-3
+    returns-4)
