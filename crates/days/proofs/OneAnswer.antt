@@ -12,6 +12,10 @@ use Rattle.days.proofs.monthinfo.neg_weekday_mask.Kinds as neg-weekday-
 use Rattle.days.proofs.monthinfo.neg_weekday_mask.Reads as neg-weekday-mask
 use Rattle.days.proofs.iterinfo.rebuild.Kinds as rebuild-kinds
 use Rattle.days.proofs.iterinfo.rebuild.Reads as rebuild
+use Rattle.days.proofs.iterinfo.is_plain.Kinds as is-plain-kinds
+use Rattle.days.proofs.iterinfo.is_plain.Reads as is-plain
+use Rattle.days.proofs.iterinfo.plain_days.Kinds as plain-days-kinds
+use Rattle.days.proofs.iterinfo.plain_days.Reads as plain-days
 use Rattle.days.proofs.iterinfo.get_dayset.Kinds as get-dayset-kinds
 use Rattle.days.proofs.iterinfo.get_dayset.Reads as get-dayset
 
@@ -26,6 +30,12 @@ neg-weekday-mask-has-one κs a x y e f = one-answer
 
 pub rebuild-has-one : Determines 1 rebuild-kinds.ps rebuild-kinds.r rebuild.Post
 rebuild-has-one κs a x y e f = one-answer
+
+pub is-plain-has-one : Determines 0 is-plain-kinds.ps is-plain-kinds.r is-plain.Post
+is-plain-has-one κs a x y e f = one-answer
+
+pub plain-days-has-one : DeterminesBuffer 1 plain-days-kinds.ps plain-days-kinds.r (List ℕ) (λ κs e. e .1 .1 .1 .0 .now) plain-days.Post
+plain-days-has-one κs a x y e f p q = (one-answer (p .0) (q .0), one-answer (p .1) (q .1))
 
 pub get-dayset-has-one : DeterminesBuffer 3 get-dayset-kinds.ps get-dayset-kinds.r (List ℕ) (λ κs e. e .1 .1 .1 .1 .1 .1 .1 .1 .1 .1 .0 .now) get-dayset.Post
 get-dayset-has-one κs a x y e f p q = (one-answer (p .0) (q .0), one-answer (p .1) (q .1))

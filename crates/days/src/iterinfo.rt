@@ -109,7 +109,7 @@ fn filtered_days<'a, 'b>(
 }
 
 // Whether no list is asked.
-fn is_plain(asked: Asked) -> bool
+pub fn is_plain(asked: Asked) -> bool
     ensures { λ r. ⌜ r ≡ isPlain asked ⌝ }
 {
     !(asked.month | (asked.monthday | (asked.yearday | (asked.weekno | asked.day))))
@@ -152,6 +152,14 @@ fn all_days(from: usize, end: usize, days: &mut [u16; 373]) -> usize
         written += 1;
     }
     written
+}
+
+// The day set where no list is asked: all the places of a stretch of a year's tables.
+pub fn plain_days(long: bool, from: usize, to: usize, days: &mut [u16; 373]) -> usize
+    ensures count { λ r. ⌜ r ≡ length (allDays from (min to (daysOf long + 7))) ⌝ }
+    ensures places { λ r. ⌜ now (days .exit) ≡ sets (now (days .entry)) 0 (allDays from (min to (daysOf long + 7))) ⌝ }
+{
+    all_days(from, stretch_end(long, to), days)
 }
 
 // Whether a mask marks none of eight places.
@@ -305,10 +313,10 @@ pub fn get_dayset<'a, 'b>(
     ensures count { λ r. ⌜ r ≡ length (daySet asked year (dayLists (now (bymonth .entry)) (now (bymonthday .entry)) (now (byyearday .entry)) (now (byday .entry))) (now (weeks .entry)) (now (nths .entry)) from to) ⌝ }
     ensures places { λ r. ⌜ now (days .exit) ≡ sets (now (days .entry)) 0 (daySet asked year (dayLists (now (bymonth .entry)) (now (bymonthday .entry)) (now (byyearday .entry)) (now (byday .entry))) (now (weeks .entry)) (now (nths .entry)) from to) ⌝ }
 {
-    let end = stretch_end(year.long, to);
     if is_plain(asked) {
-        return all_days(from, end, days);
+        return plain_days(year.long, from, to, days);
     }
+    let end = stretch_end(year.long, to);
     if is_mixed(asked) {
         return filtered_days(
             asked,

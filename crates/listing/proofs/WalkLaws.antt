@@ -28,14 +28,13 @@ use Rattle.walks.specs.declared.rrule_iter.Bounds.{Bounds}
 use Rattle.walks.specs.declared.rrule_iter.Frame.{Frame}
 use Rattle.walks.specs.Walks.{givenBy, nowOf, walkedBy, tabled, walkFrom, daysWalk, placesWalk, Ready}
 use Rattle.rule.proofs.GivenLaws.{neither}
-use Rattle.walks.specs.Passing.{passedDays}
+use Rattle.walks.specs.Passing.{passedDays, Timely}
 use Rattle.walks.proofs.Passing.{passed-holds, passed-walks}
 use Rattle.positions.specs.Places.{keptPlaces, over}
 use Rattle.positions.proofs.PlaceLaws.{places-below}
 use Rattle.listing.specs.Opening.{frameOf, keptCount, chosenOver, keptBy, chosenBy, secondKept}
 use Rattle.settling.specs.declared.rrule_iter.Settled.{Settled}
 use Rattle.settling.specs.Settling.{answerOf, movedTo, settledThrough, settled}
-use Rattle.listing.specs.Sound.{Sound}
 
 -- where a walk leaves off
 abbrev pub leftAt : {A : Type 0} → compute.Walked A → Now A
@@ -235,14 +234,22 @@ ready-passed full f b h days buffer r e y =
     subst (λ (x : Held). Ready b x buffer) (sym (e ∙ passed-holds full f b h days)) (record { start = y .start; handed = y .handed; number = y .number })
 
 -- and where days were passed, the walk is the same
-pub by-passed : (positioned : Bool) (f : Frame) (b : Bounds) (h : Held) (kept : ℕ) (days lists places buffer : List ℕ) (r : Held)
-    → Sound positioned f kept lists → positioned ≡ false → r ≡ passedDays (ltb 0 (h .number) || eqb (h .handed) (length buffer)) f b h days
-    → daysWalk f b r days lists buffer
-    ≡ compute.walk (givenBy b) (tabled (secondKept positioned f days lists places) (h .place) (kept - h .place)) (nowOf State.Running h buffer)
-by-passed positioned f b h kept days lists places buffer r z p e =
+pub passed-same : (f : Frame) (b : Bounds) (h : Held) (days lists buffer : List ℕ) (r : Held)
+    → Timely f lists → r ≡ passedDays (ltb 0 (h .number) || eqb (h .handed) (length buffer)) f b h days
+    → daysWalk f b r days lists buffer ≡ daysWalk f b h days lists buffer
+passed-same f b h days lists buffer r z e =
     ap (λ (x : Held). daysWalk f b x days lists buffer) e
-    ∙ sym (passed-walks (ltb 0 (h .number) || eqb (h .handed) (length buffer)) f b h days lists buffer (λ q. eqb-false _ _ (neither (ltb 0 (h .number)) (eqb (h .handed) (length buffer)) q .1)) (z .time-high))
-    ∙ by-days positioned f b h kept days lists places buffer p (z .kept-is p)
+    ∙ sym (passed-walks (ltb 0 (h .number) || eqb (h .handed) (length buffer)) f b h days lists buffer (λ q. eqb-false _ _ (neither (ltb 0 (h .number)) (eqb (h .handed) (length buffer)) q .1)) z)
+
+-- without positions all candidates are kept, and no place is written
+module _ (positioned : Bool) (e : positioned ≡ false) (bysetpos : List Bool) (f : Frame) where
+  pub kept-all : keptBy positioned bysetpos f ≡ f .days * f .times
+  unfolding keptCount
+  kept-all = rw e
+
+  pub none-chosen : (slots : List ℕ) → slots ≡ chosenBy positioned bysetpos f slots
+  unfolding chosenOver
+  none-chosen slots = rw e
 
 -- ---- where no day passes, nothing is kept and there is nothing to walk over
 none-kept : (bysetpos : List Bool) (n : ℕ) → n ≡ 0 → keptPlaces bysetpos n ≡ []

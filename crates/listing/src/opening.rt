@@ -1,4 +1,8 @@
 // A period opened: its candidates by number, and how many are kept.
+use days::filters::Asked;
+use days::iterinfo::get_dayset;
+use days::iterinfo::is_plain;
+use days::iterinfo::plain_days;
 use positions::pos_list::build_pos_list;
 use rule::rrule::Frequency;
 use times::iterinfo::Counts;
@@ -10,7 +14,11 @@ use weeks::yearinfo::Year;
 ghost use mathlib.Core.Path.{_≡_};
 ghost use mathlib.Core.Bool.{true};
 ghost use Prim.Native.Nat.{_/_, _≤_, _<_};
+ghost use lib.ListN.{length};
+ghost use lib.Seq.{sets};
 ghost use Rattle.rule.specs.Moves.{ticks};
+ghost use Rattle.days.specs.Filters.{dayLists};
+ghost use Rattle.days.specs.DaySets.{daySet};
 ghost use Rattle.walks.specs.Walks.{secondAt};
 ghost use Rattle.listing.specs.Opening.{isInYear, tickSecond, periodEnd, frameOf, keptCount, chosenOver, candidateOf, Placed, Ready, nextOf};
 
@@ -23,6 +31,41 @@ pub(crate) fn covers(year: Year, day: u64) -> bool
     }
     let place = day - year.first;
     if year.long { place < 366 } else { place < 365 }
+}
+
+// The passing days of a period. Where no list is asked they are all its days, and get_dayset, which is long, isn't called for each period.
+pub(crate) fn period_days<'a, 'b>(
+    asked: Asked,
+    year: Year,
+    from: usize,
+    to: usize,
+    bymonth: &'a [bool; 12],
+    bymonthday: &'a [bool; 62],
+    byyearday: &'a [bool; 732],
+    byday: &'a [bool; 749],
+    weeks: &'b [bool; 373],
+    nths: &'b [bool; 373],
+    days: &mut [u16; 373],
+) -> usize
+    ensures count { λ r. ⌜ r ≡ length (daySet asked year (dayLists (now (bymonth .entry)) (now (bymonthday .entry)) (now (byyearday .entry)) (now (byday .entry))) (now (weeks .entry)) (now (nths .entry)) from to) ⌝ }
+    ensures places { λ r. ⌜ now (days .exit) ≡ sets (now (days .entry)) 0 (daySet asked year (dayLists (now (bymonth .entry)) (now (bymonthday .entry)) (now (byyearday .entry)) (now (byday .entry))) (now (weeks .entry)) (now (nths .entry)) from to) ⌝ }
+{
+    if is_plain(asked) {
+        return plain_days(year.long, from, to, days);
+    }
+    get_dayset(
+        asked,
+        year,
+        from,
+        to,
+        bymonth,
+        bymonthday,
+        byyearday,
+        byday,
+        weeks,
+        nths,
+        days,
+    )
 }
 
 // The seconds of a period below DAILY; of a day otherwise.

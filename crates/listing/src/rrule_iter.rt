@@ -1,11 +1,11 @@
 // The run: a rule's due instants, from a cursor on, into a lent buffer, with a budget of moves.
 use crate::cursors::is_poised;
 use crate::opening::covers;
+use crate::opening::period_days;
 use crate::plan::Plan;
 use crate::plan::plan_of;
 use crate::walking::walk_opened;
 use calendar::utils::year_of_day;
-use days::iterinfo::get_dayset;
 use days::iterinfo::rebuild;
 use machine::Answer;
 use machine::Cause;
@@ -83,7 +83,7 @@ fn run_on(
         let year = info.year;
         let from = (span.from - year.first) as usize;
         let to = (span.to - year.first) as usize;
-        let count = get_dayset(
+        let count = period_days(
             plan.asked,
             year,
             from,

@@ -12,41 +12,27 @@ use walks::rrule_iter::pass_days;
 use walks::rrule_iter::walk_days;
 use walks::rrule_iter::walk_places;
 ghost use mathlib.Core.Path.{_≡_};
-ghost use Prim.Native.Nat.{_-_, _≤_, _<_};
+ghost use Prim.Native.Nat.{_-_, _<_};
 ghost use Rattle.machine.specs.declared.State.{State};
 ghost use Rattle.machine.specs.Compute.{walk};
-ghost use Rattle.walks.specs.Walks.{Ready, givenBy, nowOf, walkedBy, tabled};
+ghost use Rattle.walks.specs.Walks.{Framed, Ready, givenBy, nowOf, walkedBy, tabled, daysWalk};
+ghost use Rattle.walks.specs.Passing.{Timely};
 ghost use Rattle.rule.specs.Moves.{ticks};
 ghost use Rattle.listing.specs.Opening.{frameOf, keptBy, chosenBy, secondKept};
-ghost use Rattle.listing.specs.Sound.{Sound, Openable};
+ghost use Rattle.listing.specs.Sound.{Openable};
 
-// The walk over the kept candidates from the place on: over their places, or over days and times, whole days before the start at one go.
-pub(crate) fn walk_period(
-    positioned: bool,
+// The walk over all candidates, from the place on: over days and times, whole days before the start at one go.
+fn walk_all(
     frame: Frame,
     bounds: Bounds,
     held: Held,
-    kept: u32,
     days: &[u16; 373],
     lists: &[u8; 144],
-    places: &[u32; 732],
     buffer: &mut [u64],
 ) -> Walked
-    requires { ⌜ Sound positioned frame kept (now lists) × Ready bounds held (now buffer) × (held .place ≤ kept) ⌝ }
-    ensures { λ r. ⌜ walkedBy r (now (buffer .exit)) ≡ walk (givenBy bounds) (tabled (secondKept positioned frame (now (days .entry)) (now (lists .entry)) (now (places .entry))) (held .place) (kept - held .place)) (nowOf State.Running held (now (buffer .entry))) ⌝ }
+    requires { ⌜ Framed frame × Timely frame (now lists) × Ready bounds held (now buffer) ⌝ }
+    ensures { λ r. ⌜ walkedBy r (now (buffer .exit)) ≡ daysWalk frame bounds held (now (days .entry)) (now (lists .entry)) (now (buffer .entry)) ⌝ }
 {
-    if positioned {
-        return walk_places(
-            frame,
-            bounds,
-            held,
-            kept as usize,
-            places,
-            days,
-            lists,
-            buffer,
-        );
-    }
     // nothing is before the start where something was handed out already
     let none = (0 < held.number) | (held.handed == buffer.len());
     let passed = pass_days(none, frame, bounds, held, days);
@@ -80,16 +66,9 @@ pub(crate) fn walk_opened<'a>(
         return Walked { why, held };
     }
     let frame = frame_of(freq, counts, tick, first, count, clock);
-    let kept = kept_of(positioned, bysetpos, frame.days, frame.times, places);
-    walk_period(
-        positioned,
-        frame,
-        bounds,
-        held,
-        kept,
-        days,
-        lists,
-        places,
-        buffer,
-    )
+    if !positioned {
+        return walk_all(frame, bounds, held, days, lists, buffer);
+    }
+    let kept = kept_of(positioned, bysetpos, frame.days, frame.times, places) as usize;
+    walk_places(frame, bounds, held, kept, places, days, lists, buffer)
 }

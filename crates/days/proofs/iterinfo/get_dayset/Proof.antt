@@ -7,29 +7,28 @@ use native.Mathlib.Omega.{arith}
 use borrow.Author.Tests.{not-true}
 use Rattle.rule.proofs.FillLaws.{both}
 use Rattle.days.specs.Filters.{dayLists}
-use Rattle.days.specs.DaySets.{allDays, markedDays, monthDays, yearDays, weekdayDays}
+use Rattle.days.specs.DaySets.{markedDays, monthDays, yearDays, weekdayDays}
 use Rattle.days.proofs.Rows.{days-high}
 use Rattle.days.proofs.Stretches.{by-month, by-year-day, by-weeks, by-none, by-weekday, by-nths, as-set}
 use borrow.Author.Needs.{needs}
 use Rattle.days.proofs.iterinfo.get_dayset.Statement.{statement}
 use Rattle.days.proofs.iterinfo.get_dayset.Tie as tie
 
-stretch-end-requires : tie.Need-stretch-end-requires
-stretch-end-requires c κs = search needs
-
 is-plain-requires : tie.Need-is-plain-requires
 is-plain-requires c κs = search needs
 
-all-days-requires : tie.Need-all-days-requires
-all-days-requires c κs = omega (arith, c .before .before .before .stretch-end .ensures, days-high (c .before .before .before .before .args .year .long))
+plain-days-requires : tie.Need-plain-days-requires
+plain-days-requires c κs = search needs
 
 returns : tie.Need-returns
 returns c =
-    let a = c .before .before .before .before .before .args in
+    let a = c .before .before .before .before .args in
     as-set _ _ _ _ _
-    (by-none (a .asked) (a .year) (dayLists (a .bymonth .now) (a .bymonthday .now) (a .byyearday .now) (a .byday .now)) (a .weeks .now) (a .nths .now) (a .from) (a .to) (sym (c .before .before .before .is-plain .ensures) ∙ c .before .before .if1 .taken)
-    ∙ ap (λ (n : ℕ). allDays (a .from) n) (sym (c .before .before .before .before .stretch-end .ensures)))
-    (c .all-days .ensures .0) (c .all-days .ensures .1)
+    (by-none (a .asked) (a .year) (dayLists (a .bymonth .now) (a .bymonthday .now) (a .byyearday .now) (a .byday .now)) (a .weeks .now) (a .nths .now) (a .from) (a .to) (sym (c .before .before .before .is-plain .ensures) ∙ c .before .before .if1 .taken))
+    (c .plain-days .ensures .0) (c .plain-days .ensures .1)
+
+stretch-end-requires : tie.Need-stretch-end-requires
+stretch-end-requires c κs = search needs
 
 is-mixed-requires : tie.Need-is-mixed-requires
 is-mixed-requires c κs = search needs
@@ -41,71 +40,71 @@ returns-2 : tie.Need-returns-2
 returns-2 c = search needs
 
 month-days-requires : tie.Need-month-days-requires
-month-days-requires c κs = (omega (arith, c .before .before .before .before .before .before .stretch-end .ensures, days-high (c .before .before .before .before .before .before .before .args .year .long)), omega (arith, c .before .before .before .before .before .before .stretch-end .ensures, days-high (c .before .before .before .before .before .before .before .args .year .long)))
+month-days-requires c κs = (omega (arith, c .before .before .before .before .stretch-end .ensures, days-high (c .before .before .before .before .before .before .before .args .year .long)), omega (arith, c .before .before .before .before .stretch-end .ensures, days-high (c .before .before .before .before .before .before .before .args .year .long)))
 
 returns-3 : tie.Need-returns-3
 returns-3 c =
     let a = c .before .before .before .before .before .before .before .before .args in
     as-set _ _ _ _ _
     (by-month (a .asked) (a .year) (dayLists (a .bymonth .now) (a .bymonthday .now) (a .byyearday .now) (a .byday .now)) (a .weeks .now) (a .nths .now) (a .from) (a .to) (sym (c .before .before .before .before .is-mixed .ensures) ∙ c .before .before .before .if2 .left) (c .before .before .if3 .taken)
-    ∙ ap (λ (n : ℕ). monthDays (a .year .long) (a .bymonth .now) (a .from) n) (sym (c .before .before .before .before .before .before .before .stretch-end .ensures)))
+    ∙ ap (λ (n : ℕ). monthDays (a .year .long) (a .bymonth .now) (a .from) n) (sym (c .before .before .before .before .before .stretch-end .ensures)))
     (c .month-days .ensures .0) (c .month-days .ensures .1)
 
 year-days-requires : tie.Need-year-days-requires
-year-days-requires c κs = (omega (arith, c .before .before .before .before .before .before .before .stretch-end .ensures, days-high (c .before .before .before .before .before .before .before .before .args .year .long)), omega (arith, c .before .before .before .before .before .before .before .stretch-end .ensures, days-high (c .before .before .before .before .before .before .before .before .args .year .long)))
+year-days-requires c κs = (omega (arith, c .before .before .before .before .before .stretch-end .ensures, days-high (c .before .before .before .before .before .before .before .before .args .year .long)), omega (arith, c .before .before .before .before .before .stretch-end .ensures, days-high (c .before .before .before .before .before .before .before .before .args .year .long)))
 
 returns-4 : tie.Need-returns-4
 returns-4 c =
     let a = c .before .before .before .before .before .before .before .before .before .args in
     as-set _ _ _ _ _
     (by-year-day (a .asked) (a .year) (dayLists (a .bymonth .now) (a .bymonthday .now) (a .byyearday .now) (a .byday .now)) (a .weeks .now) (a .nths .now) (a .from) (a .to) (sym (c .before .before .before .before .before .is-mixed .ensures) ∙ c .before .before .before .before .if2 .left) (c .before .before .before .if3 .left) (c .before .before .if4 .taken)
-    ∙ ap (λ (n : ℕ). yearDays (a .year .long) (a .year .nextlong) (a .byyearday .now) (a .from) n) (sym (c .before .before .before .before .before .before .before .before .stretch-end .ensures)))
+    ∙ ap (λ (n : ℕ). yearDays (a .year .long) (a .year .nextlong) (a .byyearday .now) (a .from) n) (sym (c .before .before .before .before .before .before .stretch-end .ensures)))
     (c .year-days .ensures .0) (c .year-days .ensures .1)
 
 marked-days-requires : tie.Need-marked-days-requires
-marked-days-requires c κs = omega (arith, c .before .before .before .before .before .before .before .before .stretch-end .ensures, days-high (c .before .before .before .before .before .before .before .before .before .args .year .long))
+marked-days-requires c κs = omega (arith, c .before .before .before .before .before .before .stretch-end .ensures, days-high (c .before .before .before .before .before .before .before .before .before .args .year .long))
 
 returns-5 : tie.Need-returns-5
 returns-5 c =
     let a = c .before .before .before .before .before .before .before .before .before .before .args in
     as-set _ _ _ _ _
     (by-weeks (a .asked) (a .year) (dayLists (a .bymonth .now) (a .bymonthday .now) (a .byyearday .now) (a .byday .now)) (a .weeks .now) (a .nths .now) (a .from) (a .to) (sym (c .before .before .before .before .before .before .is-mixed .ensures) ∙ c .before .before .before .before .before .if2 .left) (c .before .before .before .before .if3 .left) (c .before .before .before .if4 .left) (c .before .before .if5 .taken)
-    ∙ ap (λ (n : ℕ). markedDays (a .weeks .now) (a .from) n) (sym (c .before .before .before .before .before .before .before .before .before .stretch-end .ensures)))
+    ∙ ap (λ (n : ℕ). markedDays (a .weeks .now) (a .from) n) (sym (c .before .before .before .before .before .before .before .stretch-end .ensures)))
     (c .marked-days .ensures .0) (c .marked-days .ensures .1)
 
 has-every-requires : tie.Need-has-every-requires
 has-every-requires c κs = search needs
 
 marked-days-requires-2 : tie.Need-marked-days-requires-2
-marked-days-requires-2 c κs = omega (arith, c .before .before .before .before .before .before .before .before .before .before .before .stretch-end .ensures, days-high (c .before .before .before .before .before .before .before .before .before .before .before .before .args .year .long))
+marked-days-requires-2 c κs = omega (arith, c .before .before .before .before .before .before .before .before .before .stretch-end .ensures, days-high (c .before .before .before .before .before .before .before .before .before .before .before .before .args .year .long))
 
 returns-6 : tie.Need-returns-6
 returns-6 c =
     let a = c .before .before .before .before .before .before .before .before .before .before .before .before .before .args in
     as-set _ _ _ _ _
-    (by-nths (a .asked) (a .year) (dayLists (a .bymonth .now) (a .bymonthday .now) (a .byyearday .now) (a .byday .now)) (a .weeks .now) (a .nths .now) (a .from) (a .to) (sym (c .before .before .before .before .before .before .before .before .before .before .before .is-plain .ensures) ∙ c .before .before .before .before .before .before .before .before .before .before .if1 .left) (sym (c .before .before .before .before .before .before .before .before .before .is-mixed .ensures) ∙ c .before .before .before .before .before .before .before .before .if2 .left) (c .before .before .before .before .before .before .before .if3 .left) (c .before .before .before .before .before .before .if4 .left) (c .before .before .before .before .before .if5 .left) (both (a .asked .nth) (not (c .before .before .before .before .has-every .result)) (c .before .before .if6 .taken) .0) (sym (c .before .before .before .before .has-every .ensures) ∙ not-true _ (both (a .asked .nth) (not (c .before .before .before .before .has-every .result)) (c .before .before .if6 .taken) .1))
-    ∙ ap (λ (n : ℕ). markedDays (a .nths .now) (a .from) n) (sym (c .before .before .before .before .before .before .before .before .before .before .before .before .stretch-end .ensures)))
+    (by-nths (a .asked) (a .year) (dayLists (a .bymonth .now) (a .bymonthday .now) (a .byyearday .now) (a .byday .now)) (a .weeks .now) (a .nths .now) (a .from) (a .to) (sym (c .before .before .before .before .before .before .before .before .before .before .before .before .is-plain .ensures) ∙ c .before .before .before .before .before .before .before .before .before .before .before .if1 .left) (sym (c .before .before .before .before .before .before .before .before .before .is-mixed .ensures) ∙ c .before .before .before .before .before .before .before .before .if2 .left) (c .before .before .before .before .before .before .before .if3 .left) (c .before .before .before .before .before .before .if4 .left) (c .before .before .before .before .before .if5 .left) (both (a .asked .nth) (not (c .before .before .before .before .has-every .result)) (c .before .before .if6 .taken) .0) (sym (c .before .before .before .before .has-every .ensures) ∙ not-true _ (both (a .asked .nth) (not (c .before .before .before .before .has-every .result)) (c .before .before .if6 .taken) .1))
+    ∙ ap (λ (n : ℕ). markedDays (a .nths .now) (a .from) n) (sym (c .before .before .before .before .before .before .before .before .before .before .stretch-end .ensures)))
     (c .marked-days2 .ensures .0) (c .marked-days2 .ensures .1)
 
 weekday-days-requires : tie.Need-weekday-days-requires
-weekday-days-requires c κs = omega (arith, c .before .before .before .before .before .before .before .before .before .before .before .stretch-end .ensures, days-high (c .before .before .before .before .before .before .before .before .before .before .before .before .args .year .long))
+weekday-days-requires c κs = omega (arith, c .before .before .before .before .before .before .before .before .before .stretch-end .ensures, days-high (c .before .before .before .before .before .before .before .before .before .before .before .before .args .year .long))
 
 returns-7 : tie.Need-returns-7
 returns-7 c =
     let a = c .before .before .before .before .before .before .before .before .before .before .before .before .before .args in
     as-set _ _ _ _ _
-    (by-weekday (a .asked) (a .year) (dayLists (a .bymonth .now) (a .bymonthday .now) (a .byyearday .now) (a .byday .now)) (a .weeks .now) (a .nths .now) (a .from) (a .to) (sym (c .before .before .before .before .before .before .before .before .before .before .before .is-plain .ensures) ∙ c .before .before .before .before .before .before .before .before .before .before .if1 .left) (sym (c .before .before .before .before .before .before .before .before .before .is-mixed .ensures) ∙ c .before .before .before .before .before .before .before .before .if2 .left) (c .before .before .before .before .before .before .before .if3 .left) (c .before .before .before .before .before .before .if4 .left) (c .before .before .before .before .before .if5 .left)
-    ∙ ap (λ (n : ℕ). weekdayDays (a .asked .nth) (a .year .first) (a .byday .now) (a .nths .now) (a .from) n) (sym (c .before .before .before .before .before .before .before .before .before .before .before .before .stretch-end .ensures)))
+    (by-weekday (a .asked) (a .year) (dayLists (a .bymonth .now) (a .bymonthday .now) (a .byyearday .now) (a .byday .now)) (a .weeks .now) (a .nths .now) (a .from) (a .to) (sym (c .before .before .before .before .before .before .before .before .before .before .before .before .is-plain .ensures) ∙ c .before .before .before .before .before .before .before .before .before .before .before .if1 .left) (sym (c .before .before .before .before .before .before .before .before .before .is-mixed .ensures) ∙ c .before .before .before .before .before .before .before .before .if2 .left) (c .before .before .before .before .before .before .before .if3 .left) (c .before .before .before .before .before .before .if4 .left) (c .before .before .before .before .before .if5 .left)
+    ∙ ap (λ (n : ℕ). weekdayDays (a .asked .nth) (a .year .first) (a .byday .now) (a .nths .now) (a .from) n) (sym (c .before .before .before .before .before .before .before .before .before .before .stretch-end .ensures)))
     (c .weekday-days .ensures .0) (c .weekday-days .ensures .1)
 
 pub get-dayset-spec : {M : Type 1} → statement M
 get-dayset-spec =
     tie.close
     (tie.spec
-    stretch-end-requires
     is-plain-requires
-    all-days-requires
+    plain-days-requires
     returns
+    stretch-end-requires
     is-mixed-requires
     filtered-days-requires
     returns-2

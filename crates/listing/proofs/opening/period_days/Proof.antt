@@ -1,0 +1,30 @@
+-- `listing::opening::period_days` meets its contract.
+-- Assumes nothing.
+use mathlib.Core.Path.{sym, _∙_}
+use Rattle.days.specs.Filters.{dayLists}
+use Rattle.days.proofs.Stretches.{by-none, as-set}
+use borrow.Author.Needs.{needs}
+use Rattle.listing.proofs.opening.period_days.Statement.{statement}
+use Rattle.listing.proofs.opening.period_days.Tie as tie
+
+is-plain-requires : tie.Need-is-plain-requires
+is-plain-requires c κs = search needs
+
+plain-days-requires : tie.Need-plain-days-requires
+plain-days-requires c κs = search needs
+
+returns : tie.Need-returns
+returns c =
+    let a = c .before .before .before .before .args in
+    as-set _ _ _ _ _
+    (by-none (a .asked) (a .year) (dayLists (a .bymonth .now) (a .bymonthday .now) (a .byyearday .now) (a .byday .now)) (a .weeks .now) (a .nths .now) (a .from) (a .to) (sym (c .before .before .before .is-plain .ensures) ∙ c .before .before .if1 .taken))
+    (c .plain-days .ensures .0) (c .plain-days .ensures .1)
+
+get-dayset-requires : tie.Need-get-dayset-requires
+get-dayset-requires c κs = search needs
+
+returns-2 : tie.Need-returns-2
+returns-2 c = search needs
+
+pub period-days-spec : {M : Type 1} → statement M
+period-days-spec = tie.close (tie.spec is-plain-requires plain-days-requires returns get-dayset-requires returns-2)
