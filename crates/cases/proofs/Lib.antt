@@ -1,8 +1,6 @@
 pub mod Charts
 pub mod Edges
 pub mod Examples
-pub mod Readings
 pub mod Records
 pub mod Refusals
 pub mod Words
-pub mod WrongVersions

@@ -25,15 +25,15 @@ use Rattle.weeks.specs.declared.yearinfo.Year.{Year}
 use Rattle.weeks.specs.Weeks.{yearInfo, weekMask}
 use Rattle.weeks.proofs.Years.{mask-of-rule}
 use Rattle.rule.specs.Days.{yearday, nthPasses, asked, monthPasses, monthdayPasses, yeardayPasses, weekPasses, weekdayPasses, datePasses, dayPasses}
-use Rattle.days.specs.Masks.{yearDayAt, yearLengthAt, nthAt, nthMask}
-use Rattle.days.specs.Filters.{askedOf, whereAsked, monthAt, monthdayAt, yeardayAt, weekdayAt, placePasses}
-use Rattle.days.specs.Info.{maskWhere, infoOf, countsInYear, ruleInfo, ruleLists}
+use Rattle.nths.specs.Masks.{yearDayAt, yearLengthAt, nthAt, nthMask}
+use Rattle.days.specs.Filters.{ruleLists, whereAsked, monthAt, monthdayAt, yeardayAt, weekdayAt, placePasses}
+use Rattle.years.specs.Info.{askedOf, maskWhere, infoOf, countsInYear, ruleInfo}
 use Rattle.rule.specs.Candidates.{gather, only}
-use Rattle.times.specs.Blocks.{passing}
+use Rattle.clocks.specs.Blocks.{passing}
 use Rattle.days.specs.DaySets.{daySet}
 use Rattle.days.specs.Claims.{DayTestIs, DaySetIs}
-use Rattle.days.proofs.Rows.{row, year-day, days-low, days-high, this-year, next-year, this-length, next-length}
-use Rattle.days.proofs.Slots.{nth-slots}
+use Rattle.nths.proofs.Rows.{row, year-day, days-low, days-high, this-year, next-year, this-length, next-length}
+use Rattle.nths.proofs.Slots.{nth-slots}
 
 -- the first days of January are the same in every year
 january : (a b : Bool) (n : ℕ) → n < 7 → monthDayOf a n ≡ monthDayOf b n

@@ -9,11 +9,11 @@ use native.Mathlib.Omega.{arith}
 use Rattle.calendar.specs.Calendar.{daysOf, MonthDay, tableDay, fromEnd, weekday}
 use Rattle.rule.specs.Lists.{monthdays, yeardays}
 use Rattle.weeks.specs.declared.yearinfo.Year.{Year}
-use Rattle.days.specs.declared.filters.Asked.{Asked}
-use Rattle.days.specs.Masks.{inTables, yearDayAt, yearLengthAt}
+use Rattle.years.specs.declared.lists.Asked.{Asked}
+use Rattle.nths.specs.Masks.{inTables, yearDayAt, yearLengthAt}
 use Rattle.days.specs.Filters.{DayLists, whereAsked, monthAt, monthdayAt, yeardayAt, weekdayAt, placePasses}
-use Rattle.days.proofs.Rows.{Row, row, YearDay, year-day}
-use Rattle.days.proofs.Slots.{month-slot, end-slots, every-slot}
+use Rattle.nths.proofs.Rows.{Row, row, YearDay, year-day}
+use Rattle.nths.proofs.Slots.{month-slot, end-slots, every-slot}
 
 pub month-read : (a long : Bool) (s : List Bool) (i m : ℕ) → a ≡ true → i < daysOf long + 7 → m ≡ tableDay long i .month
     → not (getD s (m - 1) false) ≡ not (whereAsked a (monthAt long s i))

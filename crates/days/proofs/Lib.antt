@@ -1,11 +1,6 @@
 pub mod Blanks
 pub mod DayTest
 pub mod FilterLaws
-pub mod MarkLaws
 pub mod MaskLaws
-pub mod NthLaws
 pub mod OneAnswer
-pub mod Rows
-pub mod Slots
-pub mod StandLaws
 pub mod Stretches

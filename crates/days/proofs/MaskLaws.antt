@@ -6,17 +6,11 @@ use mathlib.Core.Bool.{Bool, true, false}
 use mathlib.Core.List.{List, [], _∷_, _++_, append-nil, append-assoc}
 use native.Mathlib.Omega.{arith}
 use native.Mathlib.Numerals.{add-one}
-use lib.ListN.{length, take, set, replicate}
+use lib.ListN.{length, take, set}
 use lib.Seq.{take-suc-set, take-all, sets}
 use Rattle.rule.specs.Lists.{flags}
 use Rattle.rule.specs.Candidates.{gather, only}
-use Rattle.times.specs.Blocks.{passing}
-use Rattle.weeks.specs.declared.yearinfo.Year.{Year}
-use Rattle.weeks.specs.Weeks.{yearInfo, weekMask}
-use Rattle.days.specs.declared.filters.Asked.{Asked}
-use Rattle.days.specs.declared.iterinfo.IterInfo.{IterInfo}
-use Rattle.days.specs.Masks.{nthMask}
-use Rattle.days.specs.Info.{maskWhere, infoOf}
+use Rattle.clocks.specs.Blocks.{passing}
 
 module _ (f : ℕ → Bool) (n : ℕ) where
   flags-next : (i : ℕ) → i < n → flags f (n - i) i ≡ f i ∷ flags f (n - (i + 1)) (i + 1)
@@ -83,20 +77,3 @@ module _ (p : ℕ → Bool) (end : ℕ) (xs b₀ b : List ℕ) (count place : �
       let n : count + length {A = ℕ} [] ≡ length xs = rw (passing-done p end place h) at (f .number) in
       let w : sets b count [] ≡ sets b₀ 0 xs = rw (passing-done p end place h) at (f .buffer) in
       (omega arith, w)
-
--- a mask that is not asked for is blank, and one that is asked for is made
-pub mask-blank : (a : Bool) (m : List Bool) → a ≡ false → replicate 373 false ≡ maskWhere a m
-mask-blank a m h = rw h
-
-pub mask-made : (a : Bool) (x m : List Bool) → a ≡ true → x ≡ m → x ≡ maskWhere a m
-mask-made a x m h e = rw h e
-
-pub info-is : (a : Asked) (inyear : Bool) (wkst y : ℕ) (weeknos days : List Bool) (year : Year) (weeks nths : List Bool)
-    → year ≡ yearInfo y → weeks ≡ maskWhere (a .weekno) (weekMask wkst weeknos y) → nths ≡ maskWhere (a .nth) (nthMask inyear year days)
-    → record { year = year; weeks = weeks; nths = nths } ≡ infoOf a inyear wkst weeknos days y
-unfolding infoOf
-info-is a inyear wkst y weeknos days year weeks nths e f g = λ i. record {
-  year = e i;
-  weeks = f i;
-  nths = (g ∙ ap (λ (x : Year). maskWhere (a .nth) (nthMask inyear x days)) e) i;
-}

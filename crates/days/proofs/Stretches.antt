@@ -12,14 +12,14 @@ use borrow.Author.Tests.{lt-ltb, le-ltb, not-true, not-false}
 use Rattle.calendar.specs.Calendar.{daysOf, weekday}
 use Rattle.rule.specs.Candidates.{gather, only}
 use Rattle.rule.proofs.GivenLaws.{neither}
-use Rattle.times.specs.Blocks.{passing}
+use Rattle.clocks.specs.Blocks.{passing}
 use Rattle.weeks.specs.declared.yearinfo.Year.{Year}
-use Rattle.days.specs.declared.filters.Asked.{Asked}
-use Rattle.days.specs.Masks.{inTables}
+use Rattle.years.specs.declared.lists.Asked.{Asked}
+use Rattle.nths.specs.Masks.{inTables}
 use Rattle.days.specs.Filters.{DayLists, monthAt, yeardayAt, weekdayAt, placePasses}
 use Rattle.days.specs.DaySets.{daySet, isPlain, isMixed, hasEvery, allDays, markedDays, monthDays, yearDays, weekdayDays}
-use Rattle.days.proofs.Rows.{days-high}
-use Rattle.days.proofs.Slots.{every-slot}
+use Rattle.nths.proofs.Rows.{days-high}
+use Rattle.nths.proofs.Slots.{every-slot}
 use Rattle.days.proofs.FilterLaws.{past-fails}
 
 -- two tests that agree below e, of which one passes nothing from e on

@@ -6,10 +6,10 @@ use mathlib.Core.List.{map}
 use Rattle.calendar.specs.Calendar.{yearLength, newYear}
 use Rattle.rule.specs.declared.rrule.Rule.{Rule}
 use Rattle.rule.specs.Days.{dayPasses}
-use Rattle.days.specs.Filters.{askedOf, placePasses}
-use Rattle.times.specs.Blocks.{passing}
+use Rattle.days.specs.Filters.{ruleLists, placePasses}
+use Rattle.clocks.specs.Blocks.{passing}
 use Rattle.days.specs.DaySets.{daySet}
-use Rattle.days.specs.Info.{ruleInfo, ruleLists}
+use Rattle.years.specs.Info.{askedOf, ruleInfo}
 
 -- The day test by tables and masks is document 01's, for every day of a year and for the seven days after it.
 abbrev pub DayTestIs : Type 0

@@ -4,9 +4,9 @@ use Prim.Native.Nat.{ℕ, _+_, _-_, _≤_, _<_, min}
 use mathlib.Core.Path.{_≡_}
 use mathlib.Core.Bool.{Bool, true, false, not, _&&_, _||_}
 use mathlib.Core.List.{List}
-use Rattle.times.specs.Blocks.{passing}
+use Rattle.clocks.specs.Blocks.{passing}
 use Rattle.weeks.specs.declared.yearinfo.Year.{Year}
-use Rattle.days.specs.declared.filters.Asked.{Asked}
+use Rattle.years.specs.declared.lists.Asked.{Asked}
 use lib.ListN.{getD}
 use Rattle.days.specs.Filters.{DayLists, monthAt, yeardayAt, weekdayAt, placePasses}
 

@@ -6,13 +6,12 @@ use mathlib.Core.List.{List}
 use lib.IntN.{pos}
 use lib.ListN.{getD}
 use Rattle.calendar.specs.Calendar.{tableDay, weekday}
-use Rattle.rule.specs.Lists.{months, monthdays, yeardays, isIn, isPairIn, isEmpty}
+use Rattle.rule.specs.Lists.{months, monthdays, yeardays, isIn, isPairIn}
 use Rattle.rule.specs.declared.rrule.Rule.{Rule}
-use Rattle.rule.specs.Records.{hasNth}
 use Rattle.rule.specs.Days.{eitherEnd}
 use Rattle.weeks.specs.declared.yearinfo.Year.{Year}
-use Rattle.days.specs.declared.filters.Asked.{Asked}
-use Rattle.days.specs.Masks.{inTables, yearDayAt, yearLengthAt}
+use Rattle.nths.specs.Masks.{inTables, yearDayAt, yearLengthAt}
+use Rattle.years.specs.declared.lists.Asked.{Asked}
 
 -- the day lists that are asked by the date
 pub record DayLists : Type 0 where
@@ -24,17 +23,9 @@ pub record DayLists : Type 0 where
 abbrev pub dayLists : (bymonth bymonthday byyearday byday : List Bool) → DayLists
 dayLists bymonth bymonthday byyearday byday = record { bymonth = bymonth; bymonthday = bymonthday; byyearday = byyearday; byday = byday }
 
--- which day lists a rule has, and whether BYDAY has entries with n not 0
-unfoldable pub askedOf : Rule → Asked
-unfolding isEmpty hasNth
-askedOf r = record {
-  month = not (isEmpty (r .bymonth));
-  monthday = not (isEmpty (r .bymonthday));
-  yearday = not (isEmpty (r .byyearday));
-  weekno = not (isEmpty (r .byweekno));
-  day = not (isEmpty (r .byday));
-  nth = hasNth (r .byday);
-}
+-- a rule's own
+abbrev pub ruleLists : Rule → DayLists
+ruleLists r = dayLists (r .bymonth) (r .bymonthday) (r .byyearday) (r .byday)
 
 -- a test that passes where it is not asked
 abbrev pub whereAsked : Bool → Bool → Bool

@@ -1,49 +1,17 @@
 // The filters of a day set, in document 01's order. Each asks its list only where there is one.
 use crate::places::is_past;
 use crate::places::weekday_at;
-use crate::places::year_day;
-use crate::places::year_day_from_end;
 use calendar::masks;
-use rule::lists::is_empty;
-use rule::rrule::Rule;
+use nths::places::year_day;
+use nths::places::year_day_from_end;
 use weeks::yearinfo::Year;
+use years::lists::Asked;
 ghost use mathlib.Core.Path.{_≡_};
 ghost use mathlib.Core.Bool.{false, not};
 ghost use Prim.Native.Nat.{_+_, _<_};
-ghost use lib.ListN.{length, getD};
+ghost use lib.ListN.{getD};
 ghost use Rattle.calendar.specs.Calendar.{daysOf};
-ghost use Rattle.rule.specs.Records.{hasNth};
-ghost use Rattle.days.specs.Filters.{askedOf, whereAsked, monthAt, monthdayAt, yeardayAt, weekdayAt, dayLists, placePasses};
-
-// Which day lists a rule has, and whether BYDAY has entries with n not 0.
-pub struct Asked {
-    pub month: bool,
-    pub monthday: bool,
-    pub yearday: bool,
-    pub weekno: bool,
-    pub day: bool,
-    pub nth: bool,
-}
-
-fn has_nth(byday: &[bool]) -> bool
-    requires { ⌜ length (now byday) ≡ 749 ⌝ }
-    ensures { λ r. ⌜ r ≡ hasNth (now (byday .entry)) ⌝ }
-{
-    !is_empty(&byday[0..371]) | !is_empty(&byday[378..749])
-}
-
-pub fn asked_lists(rule: Rule) -> Asked
-    ensures { λ r. ⌜ r ≡ askedOf rule ⌝ }
-{
-    Asked {
-        month: !is_empty(&rule.bymonth),
-        monthday: !is_empty(&rule.bymonthday),
-        yearday: !is_empty(&rule.byyearday),
-        weekno: !is_empty(&rule.byweekno),
-        day: !is_empty(&rule.byday),
-        nth: has_nth(&rule.byday),
-    }
-}
+ghost use Rattle.days.specs.Filters.{whereAsked, monthAt, monthdayAt, yeardayAt, weekdayAt, dayLists, placePasses};
 
 pub(crate) fn is_filtered_by_month(
     asked: bool,

@@ -5,11 +5,12 @@ use crate::given;
 use crate::lists;
 use crate::output;
 use crate::parts;
+use basics::faults;
+use basics::rrule;
 use machine::Cause;
 use machine::Cursor;
 use machine::State;
 use machine::Stop;
-use rule::rrule;
 use rule::rrule::Checked;
 use rule::rrule::Rule;
 use rule::rrule::Verdict;
@@ -130,7 +131,7 @@ fn write_stop(last: Chain, out: &mut [u8]) -> usize {
         Stop::Ended => write_end(b": ended", last, out, waiting),
         Stop::More => write_end(b": more", last, out, waiting),
         Stop::Limited => write_end(b": limited", last, out, waiting),
-        Stop::Refused(fault) => write_refused(machine::fault_number(fault), out, waiting),
+        Stop::Refused(fault) => write_refused(faults::fault_number(fault), out, waiting),
     }
 }
 

@@ -17,16 +17,17 @@ use Rattle.rule.specs.Days.{dayPasses}
 use Rattle.rule.specs.Periods.{period, inRange}
 use Rattle.rule.specs.Candidates.{gather, only, times, candidates, kept}
 use Rattle.rule.specs.Moves.{dayIn, fine}
-use Rattle.periods.specs.declared.counter_date.Days.{Days}
+use Rattle.stretches.specs.declared.counter_date.Days.{Days}
 use Rattle.times.specs.declared.iterinfo.Counts.{Counts}
-use Rattle.times.specs.Blocks.{passing, passingDays}
-use Rattle.times.specs.TimeSets.{openOf, timesLen, timeAt, clockIn, setsIn, openIn, timeIn}
-use Rattle.times.proofs.Blocks.{passing-in, passing-short}
-use Rattle.times.proofs.Choices.{times-at-most, times-below}
-use Rattle.times.proofs.Tied.{times-len-is, time-at-is, candidates-counted, candidate-numbered}
-use Rattle.days.specs.Filters.{askedOf, placePasses}
+use Rattle.clocks.specs.Blocks.{passing, passingDays}
+use Rattle.times.specs.TimeSets.{openOf, timesLen, timeAt}
+use Rattle.clocks.specs.Clocks.{clockIn, setsIn, openIn, timeIn}
+use Rattle.clocks.proofs.Blocks.{passing-in, passing-short}
+use Rattle.clocks.proofs.Choices.{times-at-most, times-below}
+use Rattle.clocks.proofs.Tied.{times-len-is, time-at-is, candidates-counted, candidate-numbered}
+use Rattle.days.specs.Filters.{ruleLists, placePasses}
 use Rattle.days.specs.DaySets.{daySet}
-use Rattle.days.specs.Info.{ruleInfo, ruleLists}
+use Rattle.years.specs.Info.{askedOf, ruleInfo}
 use Rattle.days.proofs.DayTest.{day-set-is}
 use Rattle.positions.specs.Places.{keptPlaces, over}
 use Rattle.positions.proofs.Buffers.{length-over, sets-over, over-reads}

@@ -20,13 +20,15 @@ use Rattle.rule.specs.Candidates.{kept}
 use Rattle.rule.specs.Moves.{ticks}
 use Rattle.rule.specs.Run.{countOf, periods}
 use Rattle.periods.specs.declared.counter_date.Counter.{Counter}
-use Rattle.periods.specs.declared.counter_date.Days.{Days}
+use Rattle.stretches.specs.declared.counter_date.Days.{Days}
 use Rattle.periods.specs.declared.counter_date.Reached.{Reached}
-use Rattle.periods.specs.Counters.{counterAt, ruleFrom, reachedAt, daysIn}
+use Rattle.periods.specs.Counters.{counterAt, ruleFrom, reachedAt}
+use Rattle.stretches.specs.Stretches.{daysIn}
 use Rattle.periods.proofs.Reach.{reached-by-fields}
-use Rattle.times.specs.TimeSets.{setsIn}
-use Rattle.times.proofs.Blocks.{within-block}
-use Rattle.days.specs.Info.{ruleInfo, ruleLists}
+use Rattle.clocks.specs.Clocks.{setsIn}
+use Rattle.clocks.proofs.Blocks.{within-block}
+use Rattle.days.specs.Filters.{ruleLists}
+use Rattle.years.specs.Info.{ruleInfo}
 use Rattle.positions.proofs.PlaceLaws.{places-fit}
 use Rattle.walks.specs.declared.rrule_iter.Bounds.{Bounds}
 use Rattle.walks.specs.declared.rrule_iter.Frame.{Frame}

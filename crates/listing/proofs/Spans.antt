@@ -21,16 +21,16 @@ use Rattle.rule.specs.Filling.{isBelow}
 use Rattle.rule.specs.Periods.{week, month, periodAfter, period, inRange}
 use Rattle.rule.specs.Moves.{fine, ticks}
 use Rattle.rule.proofs.Order.{below-or, first, month-next, months-rise, monthIn}
-use Rattle.periods.specs.declared.counter_date.Days.{Days}
-use Rattle.periods.specs.Counters.{numberOf, stepOf, counterAt, daysAt, limitOf}
+use Rattle.stretches.specs.declared.counter_date.Days.{Days}
+use Rattle.periods.specs.Counters.{numberOf, stepOf, counterAt, limitOf}
+use Rattle.stretches.specs.Stretches.{daysAt}
 use Rattle.periods.proofs.Counted.{year-limit, month-limit, in-range-is, place-is-tick}
-use Rattle.periods.proofs.Capped.{days-below}
-use Rattle.periods.proofs.Reach.{days-of-period}
+use Rattle.stretches.proofs.Spanned.{days-below, days-of-period}
 use Rattle.weeks.specs.declared.yearinfo.Year.{Year}
 use Rattle.weeks.specs.Weeks.{noYear, yearInfo}
-use Rattle.days.specs.declared.filters.Asked.{Asked}
-use Rattle.days.specs.Info.{infoOf, ruleInfo}
-use Rattle.days.proofs.Rows.{days-high}
+use Rattle.years.specs.declared.lists.Asked.{Asked}
+use Rattle.years.specs.Info.{infoOf, ruleInfo}
+use Rattle.nths.proofs.Rows.{days-high}
 use Rattle.listing.specs.Opening.{isInYear, tickSecond, periodEnd}
 use Rattle.listing.specs.Opened.{spanOf}
 use Rattle.listing.proofs.Yielded.{Good}

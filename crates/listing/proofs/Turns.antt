@@ -35,16 +35,19 @@ use Rattle.rule.specs.Records.{yielded, Sized}
 use Rattle.rule.specs.Run.{countOf, untilOf, periods}
 use Rattle.weeks.specs.declared.yearinfo.Year.{Year}
 use Rattle.rule.proofs.Cursors.{number-fits}
-use Rattle.times.specs.TimeSets.{timeAt, clockIn, setsIn}
-use Rattle.times.proofs.Tied.{clock-hours, clock-minutes, clock-seconds}
+use Rattle.times.specs.TimeSets.{timeAt}
+use Rattle.clocks.specs.Clocks.{clockIn, setsIn}
+use Rattle.clocks.proofs.Tied.{clock-hours, clock-minutes, clock-seconds}
 use Rattle.positions.proofs.PlaceLaws.{places-fit}
-use Rattle.days.specs.declared.iterinfo.IterInfo.{IterInfo}
+use Rattle.years.specs.declared.iterinfo.IterInfo.{IterInfo}
 use Rattle.days.specs.DaySets.{daySet}
-use Rattle.days.specs.Info.{infoOf, ruleInfo, ruleLists}
+use Rattle.days.specs.Filters.{ruleLists}
+use Rattle.years.specs.Info.{infoOf, ruleInfo}
 use Rattle.periods.specs.declared.counter_date.Counter.{Counter}
-use Rattle.periods.specs.declared.counter_date.Days.{Days}
+use Rattle.stretches.specs.declared.counter_date.Days.{Days}
 use Rattle.periods.specs.declared.counter_date.Reached.{Reached}
-use Rattle.periods.specs.Counters.{counterAt, daysIn, stepOf}
+use Rattle.periods.specs.Counters.{counterAt, stepOf}
+use Rattle.stretches.specs.Stretches.{daysIn}
 use Rattle.moves.specs.Increments.{skipped, landing, arrive, stands, incremented, reachedBy}
 use Rattle.moves.specs.Claims.{Flags}
 use Rattle.moves.proofs.Ties.{increment-is-move, k-is}

@@ -16,12 +16,14 @@ use Rattle.rule.specs.Periods.{inRange}
 use Rattle.rule.specs.Candidates.{kept}
 use Rattle.rule.specs.Moves.{dayIn, fine, ticks}
 use Rattle.rule.specs.Records.{yielded}
-use Rattle.periods.specs.declared.counter_date.Days.{Days}
-use Rattle.periods.specs.Counters.{counterAt, daysIn}
-use Rattle.times.specs.TimeSets.{timeAt, clockIn, setsIn}
-use Rattle.days.specs.Filters.{askedOf}
+use Rattle.stretches.specs.declared.counter_date.Days.{Days}
+use Rattle.periods.specs.Counters.{counterAt}
+use Rattle.stretches.specs.Stretches.{daysIn}
+use Rattle.times.specs.TimeSets.{timeAt}
+use Rattle.clocks.specs.Clocks.{clockIn, setsIn}
+use Rattle.days.specs.Filters.{ruleLists}
 use Rattle.days.specs.DaySets.{daySet}
-use Rattle.days.specs.Info.{ruleInfo, ruleLists}
+use Rattle.years.specs.Info.{askedOf, ruleInfo}
 use Rattle.walks.specs.declared.rrule_iter.Frame.{Frame}
 use Rattle.walks.specs.Walks.{tabled}
 use Rattle.listing.specs.Opening.{isInYear, frameOf, keptCount, chosenOver, secondKept}

@@ -5,9 +5,8 @@ use Rattle.rule.specs.declared.rrule.Until.{Until}
 use Rattle.rule.specs.declared.rrule.Rule.{Rule}
 use Rattle.rule.specs.Instants.{second, dayOf}
 use Rattle.rule.specs.Lists.{isEmpty}
-use Rattle.days.specs.Filters.{askedOf}
-use Rattle.days.specs.Info.{countsInYear}
-use Rattle.times.specs.TimeSets.{clockIn, setsIn}
+use Rattle.years.specs.Info.{askedOf, countsInYear}
+use Rattle.clocks.specs.Clocks.{clockIn, setsIn}
 use Rattle.walks.specs.declared.rrule_iter.Bounds.{Bounds}
 use Rattle.listing.specs.declared.plan.Plan.{Plan}
 

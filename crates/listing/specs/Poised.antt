@@ -10,13 +10,13 @@ use Rattle.machine.specs.declared.Cursor.{Cursor}
 use Rattle.machine.specs.Given.{below}
 use Rattle.rule.specs.Run.{countOf}
 use Rattle.periods.specs.declared.counter_date.Counter.{Counter}
-use Rattle.periods.specs.declared.counter_date.Days.{Days}
+use Rattle.stretches.specs.declared.counter_date.Days.{Days}
 use Rattle.periods.specs.declared.counter_date.Reached.{Reached}
-use Rattle.days.specs.declared.filters.Asked.{Asked}
-use Rattle.days.specs.declared.iterinfo.IterInfo.{IterInfo}
+use Rattle.years.specs.declared.lists.Asked.{Asked}
+use Rattle.years.specs.declared.iterinfo.IterInfo.{IterInfo}
 use Rattle.days.specs.DaySets.{daySet}
 use Rattle.days.specs.Filters.{DayLists}
-use Rattle.days.specs.Info.{infoOf}
+use Rattle.years.specs.Info.{infoOf}
 use Rattle.walks.specs.declared.rrule_iter.Frame.{Frame}
 use Rattle.listing.specs.declared.cursors.YearDays.{YearDays}
 use Rattle.listing.specs.declared.plan.Plan.{Plan}

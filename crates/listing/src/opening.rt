@@ -1,5 +1,4 @@
 // A period opened: its candidates by number, and how many are kept.
-use days::filters::Asked;
 use days::iterinfo::get_dayset;
 use days::iterinfo::is_plain;
 use days::iterinfo::plain_days;
@@ -11,6 +10,7 @@ use times::iterinfo::time_at;
 use times::iterinfo::times_len;
 use walks::rrule_iter::Frame;
 use weeks::yearinfo::Year;
+use years::lists::Asked;
 ghost use mathlib.Core.Path.{_≡_};
 ghost use mathlib.Core.Bool.{true};
 ghost use Prim.Native.Nat.{_/_, _≤_, _<_};

@@ -1,15 +1,15 @@
 // What a call needs of its rule, made once.
-use days::filters::Asked;
-use days::filters::asked_lists;
-use rule::lists::is_empty;
+use basics::lists::is_empty;
+use basics::rrule::frequency_number;
+use clocks::iterinfo::get_clock;
+use clocks::iterinfo::get_timeset;
 use rule::rrule::Frequency;
 use rule::rrule::Rule;
 use rule::rrule::Until;
-use rule::rrule::frequency_number;
 use times::iterinfo::Counts;
-use times::iterinfo::get_clock;
-use times::iterinfo::get_timeset;
 use walks::rrule_iter::Bounds;
+use years::lists::Asked;
+use years::lists::asked_lists;
 ghost use mathlib.Core.Path.{_≡_};
 ghost use mathlib.Core.Bool.{false};
 ghost use Prim.Native.Nat.{_≤_};

@@ -10,6 +10,4 @@ pub mod Chains
 pub mod Finish
 pub mod Enough
 pub mod Theorems
-pub mod Determines
-pub mod OneAnswer
 pub mod Example

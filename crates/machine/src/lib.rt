@@ -1,6 +1,4 @@
 // One run's cursor and answer. What a run does is said in specs/, over any periods and any moves.
-ghost use mathlib.Core.Path.{_≡_};
-ghost use Rattle.machine.specs.Faults.{faultNumber, refusedAnswer};
 
 // Why a cursor is ended.
 pub enum Cause {
@@ -44,27 +42,4 @@ pub struct Answer {
     pub cursor: Cursor,
     pub moves: u32,
     pub handed: usize,
-}
-
-// The number of a refusal.
-pub fn fault_number(fault: Fault) -> u8
-    ensures { λ r. ⌜ r ≡ faultNumber fault ⌝ }
-{
-    match fault {
-        Fault::Record => 20,
-        Fault::Cursor => 21,
-    }
-}
-
-// The answer of a refused run: the cursor as given, zero moves and zero handed out.
-pub fn refused(fault: Fault, cursor: Cursor) -> Answer
-    ensures { λ r. ⌜ r ≡ refusedAnswer fault cursor ⌝ }
-{
-    let stop = Stop::Refused(fault);
-    Answer {
-        stop,
-        cursor,
-        moves: 0,
-        handed: 0,
-    }
 }

@@ -18,7 +18,7 @@ use Rattle.rule.proofs.Order.{below-or, months-rise, monthIn}
 use Rattle.periods.specs.declared.counter_date.Counter.{Counter}
 use Rattle.periods.specs.declared.counter_date.Reached.{Reached}
 use Rattle.periods.specs.Claims.{StartOut}
-use Rattle.periods.specs.Counters.{monthsBefore, numberOf, stepOf, cut, counterAt, reachedAt, daysAt, limitOf, daysIn}
+use Rattle.periods.specs.Counters.{monthsBefore, numberOf, stepOf, cut, counterAt, reachedAt, limitOf}
 use Rattle.periods.proofs.Counted.{year-limit, month-limit, in-range-is}
 
 -- where a number is not cut, its counter has no tick
@@ -115,15 +115,6 @@ begins-late Frequency.Secondly wkst s n h = omega arith
 pub start-out : StartOut
 unfolding inRange period
 start-out r k h = le-ltb _ _ (begins-late (r .freq) (r .wkst) (second (r .start)) (k * r .interval) (omega arith))
-
--- the period with a number has days below the limit, and none from it on
-pub days-below : (f : Frequency) (d n : ℕ) → n < limitOf f → daysAt f d n ≡ daysIn f d n
-unfolding daysIn
-days-below f d n h = rw (lt-ltb n (limitOf f) h)
-
-pub days-past : (f : Frequency) (d n : ℕ) → limitOf f ≤ n → record { from = 0; to = 0 } ≡ daysIn f d n
-unfolding daysIn
-days-past f d n h = rw (le-ltb n (limitOf f) h)
 
 -- the counter of a sum cut short
 abbrev pub capped : Rule → ℕ → Counter

@@ -1,4 +1,4 @@
--- What a counter tells of its period: whether it begins in range, where its days begin and end, and its hour, minute and second.
+-- What a counter tells of its period: whether it begins in range, and its hour, minute and second.
 -- Assumes nothing.
 use Prim.Native.Nat.{ℕ, zero, suc, _+_, _-_, _*_, _/_, _%_, min, max, _≤_, _<_}
 use mathlib.Core.Path.{_≡_, refl, sym, _∙_, ap, subst⁻¹}
@@ -19,9 +19,9 @@ use Rattle.rule.specs.Filling.{isBelow}
 use Rattle.rule.specs.Periods.{week, month, periodAfter, period, inRange}
 use Rattle.rule.specs.Moves.{fine, ticks}
 use Rattle.rule.proofs.Order.{below-or, first, month-next, months-rise, monthIn, month-low}
-use Rattle.periods.specs.Claims.{InRangeIs, FirstDayIs, LastDayIs, DayIsNumber, PlaceIsTick}
+use Rattle.periods.specs.Claims.{InRangeIs, DayIsNumber, PlaceIsTick}
 use Rattle.periods.specs.Claims.{HourlyHour, MinutelyHour, MinutelyMinute, SecondlyHour, SecondlyMinute, SecondlySecond}
-use Rattle.periods.specs.Counters.{numberOf, stepOf, counterAt, daysAt, limitOf}
+use Rattle.periods.specs.Counters.{numberOf, stepOf, counterAt, limitOf}
 
 -- two tests with one answer
 same-test : (a b c d : ℕ) → (a < b → c < d) → (b ≤ a → d ≤ c) → ltb a b ≡ ltb c d
@@ -171,55 +171,3 @@ secondly-minute r k e = omega (arith, secondly-place r k e)
 
 pub secondly-second : SecondlySecond
 secondly-second r k e = omega (arith, secondly-place r k e)
-
--- The days of a period: of each frequency where it begins, and the day after the last that it reaches into.
-year-first : (y : ℕ) → dayOf (newYear y * 86400) ≡ newYear (y / 1)
-year-first y = let e : y / 1 ≡ y = omega arith in rw e (omega arith)
-
-year-last : (y : ℕ) → (newYear (y + 1) * 86400 + 86399) / 86400 ≡ newYear (y / 1 + 1)
-year-last y = let e : y / 1 ≡ y = omega arith in rw e (omega arith)
-
-month-first : (n : ℕ) → dayOf (first n * 86400) ≡ first (n / 1)
-month-first n = let e : n / 1 ≡ n = omega arith in rw e (omega arith)
-
-month-last : (n : ℕ) → (first (n + 1) * 86400 + 86399) / 86400 ≡ first (n / 1 + 1)
-month-last n = let e : n / 1 ≡ n = omega arith in rw e (omega arith)
-
-week-first : (wkst d n : ℕ) → dayOf (week d (weekOf wkst d) n .begins) ≡ max ((weekOf wkst d + 7 * n) / 1) d
-week-first wkst d zero = omega arith
-week-first wkst d (suc n) = omega arith
-
-week-last : (wkst d n : ℕ) → (week d (weekOf wkst d) n .ends + 86399) / 86400 ≡ min ((weekOf wkst d + 7 * n) / 1 + 7) rangeEnd
-week-last wkst d zero = omega arith
-week-last wkst d (suc n) = omega arith
-
-module _ (wkst s k i : ℕ) where
-  first-day-after : (f : Frequency)
-      → dayOf (periodAfter f wkst s (k * i) .begins) ≡ daysAt f (dayOf s) ((numberOf f wkst s + k * stepOf f i) / ticks f) .from
-  unfolding periodAfter month numberOf stepOf daysAt
-  first-day-after Frequency.Yearly = year-first (yearOf (dayOf s) + k * i)
-  first-day-after Frequency.Monthly = month-first (monthIn (dayOf s) + k * i)
-  first-day-after Frequency.Weekly = rw (mul-left-comm k 7 i) (week-first wkst (dayOf s) (k * i))
-  first-day-after Frequency.Daily = omega arith
-  first-day-after Frequency.Hourly = omega arith
-  first-day-after Frequency.Minutely = omega arith
-  first-day-after Frequency.Secondly = omega arith
-
-  last-day-after : (f : Frequency)
-      → (periodAfter f wkst s (k * i) .ends + 86399) / 86400 ≡ daysAt f (dayOf s) ((numberOf f wkst s + k * stepOf f i) / ticks f) .to
-  unfolding periodAfter month numberOf stepOf daysAt
-  last-day-after Frequency.Yearly = year-last (yearOf (dayOf s) + k * i)
-  last-day-after Frequency.Monthly = month-last (monthIn (dayOf s) + k * i)
-  last-day-after Frequency.Weekly = rw (mul-left-comm k 7 i) (week-last wkst (dayOf s) (k * i))
-  last-day-after Frequency.Daily = omega arith
-  last-day-after Frequency.Hourly = omega arith
-  last-day-after Frequency.Minutely = omega arith
-  last-day-after Frequency.Secondly = omega arith
-
-pub first-day-is : FirstDayIs
-unfolding period counterAt
-first-day-is r k = first-day-after (r .wkst) (second (r .start)) k (r .interval) (r .freq)
-
-pub last-day-is : LastDayIs
-unfolding period counterAt
-last-day-is r k = last-day-after (r .wkst) (second (r .start)) k (r .interval) (r .freq)

@@ -1,18 +1,16 @@
--- What is told of a period: its counter where it begins in range, and its days.
+-- What is told of a period: its counter where it begins in range.
 -- Assumes nothing.
 use Prim.Native.Nat.{ℕ}
 use mathlib.Core.Path.{_≡_, refl, sym, _∙_}
 use mathlib.Core.Bool.{Bool, true, false}
 use native.Mathlib.Omega.{arith}
-use lib.Dec.{ltb}
 use Rattle.calendar.specs.Calendar.{if_then_else_}
 use Rattle.rule.specs.declared.rrule.Rule.{Rule}
 use Rattle.rule.specs.Periods.{inRange}
 use Rattle.periods.specs.declared.counter_date.Counter.{Counter}
 use Rattle.periods.specs.declared.counter_date.Reached.{Reached}
-use Rattle.periods.specs.Claims.{ReachedByFields, ReachedCounter, ReachedRange, NeverNoTick, DaysOfPeriod}
-use Rattle.periods.specs.Counters.{counterAt, ruleFrom, reachedAt, limitOf, daysIn}
-use Rattle.periods.proofs.Counted.{in-range-is, first-day-is, last-day-is}
+use Rattle.periods.specs.Claims.{ReachedByFields, ReachedCounter, ReachedRange, NeverNoTick}
+use Rattle.periods.specs.Counters.{counterAt, ruleFrom, reachedAt}
 
 pub reached-by-fields : ReachedByFields
 unfolding reachedAt ruleFrom
@@ -42,9 +40,3 @@ reached-range r k e = range-told (inRange r k) (counterAt r k) e
 pub never-no-tick : NeverNoTick
 unfolding reachedAt
 never-no-tick r k e = no-tick-told (inRange r k) (counterAt r k) e
-
-pub days-of-period : DaysOfPeriod
-unfolding daysIn
-days-of-period r k h i =
-    let b : ltb (counterAt r k .number) (limitOf (r .freq)) ≡ true = sym (in-range-is r h k) ∙ i in
-    rw (b, first-day-is r k, last-day-is r k)

@@ -1,17 +1,17 @@
 -- What is claimed of the counters' definitions; proofs/ has a proof of each claim, under the same name in small letters.
 -- Assumes nothing.
-use Prim.Native.Nat.{ℕ, _+_, _*_, _/_, _%_, _≤_, _<_}
+use Prim.Native.Nat.{ℕ, _*_, _/_, _%_, _≤_, _<_}
 use mathlib.Core.Path.{_≡_}
 use mathlib.Core.Bool.{true, false}
 use lib.Dec.{ltb}
 use Rattle.rule.specs.declared.rrule.Frequency.{Frequency}
 use Rattle.rule.specs.declared.rrule.Rule.{Rule}
-use Rattle.rule.specs.Instants.{second, lastInstant, dayOf, hourOf, minuteOf, secondOf}
+use Rattle.rule.specs.Instants.{lastInstant, dayOf, hourOf, minuteOf, secondOf}
 use Rattle.rule.specs.Periods.{period, inRange}
 use Rattle.rule.specs.Moves.{fine, ticks}
 use Rattle.periods.specs.declared.counter_date.Counter.{Counter}
 use Rattle.periods.specs.declared.counter_date.Reached.{Reached}
-use Rattle.periods.specs.Counters.{counterAt, ruleFrom, reachedAt, daysAt, limitOf, daysIn}
+use Rattle.periods.specs.Counters.{counterAt, ruleFrom, reachedAt, limitOf}
 
 -- A period begins in range where its number is below the limit. Week period 0 begins on the start's own day, which has to be in range for that.
 abbrev pub InRangeIs : Type 0
@@ -34,19 +34,6 @@ ReachedRange = (r : Rule) (k : ℕ) → Reached.Range ≡ reachedAt r k → inRa
 
 abbrev pub NeverNoTick : Type 0
 NeverNoTick = (r : Rule) (k : ℕ) → Reached.NoTick ≡ reachedAt r k → ⊥
-
--- The days of a period go from the one on which it begins up to the first that it has no second of.
-abbrev pub FirstDayIs : Type 0
-FirstDayIs = (r : Rule) (k : ℕ) → dayOf (period r k .begins) ≡ daysAt (r .freq) (dayOf (second (r .start))) (counterAt r k .number) .from
-
-abbrev pub LastDayIs : Type 0
-LastDayIs = (r : Rule) (k : ℕ) → (period r k .ends + 86399) / 86400 ≡ daysAt (r .freq) (dayOf (second (r .start))) (counterAt r k .number) .to
-
--- The same of the days that are told of a period in range.
-abbrev pub DaysOfPeriod : Type 0
-DaysOfPeriod = (r : Rule) (k : ℕ) → r .start ≤ lastInstant → inRange r k ≡ true
-    → daysIn (r .freq) (dayOf (second (r .start))) (counterAt r k .number)
-    ≡ record { from = dayOf (period r k .begins); to = (period r k .ends + 86399) / 86400 }
 
 -- Below DAILY a period begins on the day that is its number, and its tick is its place in that day.
 abbrev pub DayIsNumber : Type 0

@@ -1,9 +1,8 @@
 -- Where period k stands, in whole numbers.
 -- Assumes nothing.
-use Prim.Native.Nat.{ℕ, _+_, _-_, _*_, _/_, _%_, min, max}
-use lib.Dec.{ltb}
+use Prim.Native.Nat.{ℕ, _+_, _-_, _*_, _/_, _%_}
 use Rattle.calendar.specs.declared.utils.Date.{Date}
-use Rattle.calendar.specs.Calendar.{if_then_else_, newYear, firstOf, yearOf, dateOf}
+use Rattle.calendar.specs.Calendar.{if_then_else_, yearOf, dateOf}
 use Rattle.rule.specs.declared.rrule.Frequency.{Frequency}
 use Rattle.rule.specs.declared.rrule.Rule.{Rule}
 use Rattle.rule.specs.Instants.{second, rangeEnd, dayOf}
@@ -13,14 +12,10 @@ use Rattle.rule.specs.Periods.{inRange}
 use Rattle.rule.specs.Moves.{ticks}
 use Rattle.periods.specs.declared.counter_date.Counter.{Counter}
 use Rattle.periods.specs.declared.counter_date.Reached.{Reached}
-use Rattle.periods.specs.declared.counter_date.Days.{Days}
 
--- how many months there are from the year 0 up to that of the day d; the first day of the month with such a number
+-- how many months there are from the year 0 up to that of the day d
 abbrev pub monthsBefore : ℕ → ℕ
 monthsBefore d = let date : Date = dateOf d in 12 * date .year + (date .month - 1)
-
-abbrev pub firstOfMonth : ℕ → ℕ
-firstOfMonth n = firstOf (n / 12) (n % 12 + 1)
 
 -- The number of the period that holds the second s: YEARLY its year, MONTHLY the months from the year 0 on, WEEKLY the first day of its
 -- calendar week; from DAILY on the units of that length before it.
@@ -79,17 +74,6 @@ unfoldable pub reachedAt : Rule → ℕ → Reached
 unfolding counterAt inRange
 reachedAt r k = if inRange r k then Reached.To (counterAt r k) else Reached.Range
 
--- The days of the period with this number; week period 0 begins on the start's own day d, and a week is cut at the end of 9999.
-unfoldable pub daysAt : Frequency → ℕ → ℕ → Days
-unfolding firstOf
-daysAt Frequency.Yearly d n = record { from = newYear n; to = newYear (n + 1) }
-daysAt Frequency.Monthly d n = record { from = firstOfMonth n; to = firstOfMonth (n + 1) }
-daysAt Frequency.Weekly d n = record { from = max n d; to = min (n + 7) rangeEnd }
-daysAt Frequency.Daily d n = record { from = n; to = n + 1 }
-daysAt Frequency.Hourly d n = record { from = n; to = n + 1 }
-daysAt Frequency.Minutely d n = record { from = n; to = n + 1 }
-daysAt Frequency.Secondly d n = record { from = n; to = n + 1 }
-
 -- the first number whose period begins after 9999
 unfoldable pub limitOf : Frequency → ℕ
 limitOf Frequency.Yearly = 10000
@@ -99,8 +83,3 @@ limitOf Frequency.Daily = rangeEnd
 limitOf Frequency.Hourly = rangeEnd
 limitOf Frequency.Minutely = rangeEnd
 limitOf Frequency.Secondly = rangeEnd
-
--- the days of the period with this number, and none where it begins after 9999
-unfoldable pub daysIn : Frequency → ℕ → ℕ → Days
-unfolding daysAt limitOf
-daysIn freq d n = if ltb n (limitOf freq) then daysAt freq d n else record { from = 0; to = 0 }

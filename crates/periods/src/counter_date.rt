@@ -2,9 +2,9 @@
 use calendar::utils;
 use rule::rrule::Frequency;
 ghost use mathlib.Core.Path.{_≡_};
-ghost use Prim.Native.Nat.{_+_, _*_, _<_, _≤_, min, max};
+ghost use Prim.Native.Nat.{_+_, _*_, _<_, _≤_, min};
 ghost use Rattle.rule.specs.Days.{weekOf};
-ghost use Rattle.periods.specs.Counters.{monthsBefore, firstOfMonth, numberOf, stepOf, cut, limitOf, ruleFrom, reachedAt, daysIn};
+ghost use Rattle.periods.specs.Counters.{monthsBefore, numberOf, stepOf, cut, limitOf, ruleFrom, reachedAt};
 
 // Period k: its number, as its frequency counts, and below DAILY its tick, which is its place in its day.
 pub struct Counter {
@@ -20,12 +20,6 @@ pub enum Reached {
     Range,
 }
 
-// The days of a period, or the day that it is a part of: from the first up to the one after the last.
-pub struct Days {
-    pub from: u64,
-    pub to: u64,
-}
-
 // The last instant of 9999.
 const LAST_INSTANT: u64 = 253402300799;
 
@@ -37,9 +31,6 @@ const RANGE: u64 = 315537897600;
 
 // The day after 9999.
 const RANGE_END: u64 = 3652059;
-
-// What stands for the days of a period after 9999.
-const NO_DAYS: Days = Days { from: 0, to: 0 };
 
 // The counter of period k where it begins in range, else Range.
 pub fn counter_at(freq: Frequency, interval: u16, wkst: u8, start: u64, k: u64) -> Reached
@@ -160,94 +151,4 @@ fn limit_of(freq: Frequency) -> u64
         Frequency::Minutely => RANGE_END,
         Frequency::Secondly => RANGE_END,
     }
-}
-
-// The days of the period with this number, and none where it begins after 9999; startday is the start's day.
-pub fn days_of(freq: Frequency, startday: u64, number: u64) -> Days
-    ensures { λ r. ⌜ r ≡ daysIn freq startday number ⌝ }
-{
-    match freq {
-        Frequency::Yearly => days_of_year(number),
-        Frequency::Monthly => days_of_month(number),
-        Frequency::Weekly => days_of_week(startday, number),
-        Frequency::Daily => day_alone(number),
-        Frequency::Hourly => day_alone(number),
-        Frequency::Minutely => day_alone(number),
-        Frequency::Secondly => day_alone(number),
-    }
-}
-
-// The days of a year.
-fn days_of_year(number: u64) -> Days
-    ensures { λ r. ⌜ r ≡ daysIn Frequency.Yearly 0 number ⌝ }
-{
-    if 10000 <= number {
-        return NO_DAYS;
-    }
-    let year = number as u32;
-    Days {
-        from: utils::days_before_year(year),
-        to: utils::days_before_year(year + 1),
-    }
-}
-
-// The days of a month.
-fn days_of_month(number: u64) -> Days
-    ensures { λ r. ⌜ r ≡ daysIn Frequency.Monthly 0 number ⌝ }
-{
-    if 120000 <= number {
-        return NO_DAYS;
-    }
-    Days {
-        from: first_of_month(number),
-        to: first_of_month(number + 1),
-    }
-}
-
-// The first day of a month.
-fn first_of_month(number: u64) -> u64
-    requires { ⌜ number ≤ 120000 ⌝ }
-    ensures { λ r. ⌜ r ≡ firstOfMonth number ⌝ }
-{
-    utils::day_of_date((number / 12) as u32, (number % 12 + 1) as u8, 1)
-}
-
-// The days of the week that begins on a day: none before the start's, nor after 9999.
-fn days_of_week(startday: u64, number: u64) -> Days
-    ensures { λ r. ⌜ r ≡ daysIn Frequency.Weekly startday number ⌝ }
-{
-    if RANGE_END <= number {
-        return NO_DAYS;
-    }
-    Days {
-        from: later(number, startday),
-        to: earlier(number + 7, RANGE_END),
-    }
-}
-
-// A day alone.
-fn day_alone(number: u64) -> Days
-    ensures { λ r. ⌜ r ≡ daysIn Frequency.Daily 0 number ⌝ }
-{
-    if RANGE_END <= number {
-        return NO_DAYS;
-    }
-    Days {
-        from: number,
-        to: number + 1,
-    }
-}
-
-// The later of two days.
-fn later(a: u64, b: u64) -> u64
-    ensures { λ r. ⌜ r ≡ max a b ⌝ }
-{
-    if a < b { b } else { a }
-}
-
-// The earlier of two days.
-fn earlier(a: u64, b: u64) -> u64
-    ensures { λ r. ⌜ r ≡ min a b ⌝ }
-{
-    if a < b { a } else { b }
 }

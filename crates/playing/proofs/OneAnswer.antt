@@ -1,6 +1,6 @@
 -- One answer: two answers that the promise of `play_all` allows are one. `Post` is the promise as the source states it.
 -- Assumes nothing.
-use Rattle.machine.proofs.Determines.{Determines, one-answer}
+use Rattle.calendar.proofs.Determines.{Determines, one-answer}
 use Rattle.playing.proofs.play_all.Kinds as play-all-kinds
 use Rattle.playing.proofs.play_all.Reads as play-all
 

@@ -3,6 +3,7 @@
 use crate::given::Given;
 use crate::play::Played;
 use crate::slots;
+use basics::faults;
 use machine::Cause;
 use machine::Cursor;
 use machine::State;
@@ -83,12 +84,7 @@ fn put_stop(out: &mut [u8], at: usize, stop: Stop) -> usize {
         Stop::Ended => put(out, at, b": ended"),
         Stop::More => put(out, at, b": more"),
         Stop::Limited => put(out, at, b": limited"),
-        Stop::Refused(fault) => put_named(
-            out,
-            at,
-            b"refused ",
-            machine::fault_number(fault) as u64,
-        ),
+        Stop::Refused(fault) => put_named(out, at, b"refused ", faults::fault_number(fault) as u64),
     }
 }
 

@@ -1,8 +1,8 @@
 // Whether a record is one that an accepted check yields. Each flag is read once, with no early exit: a run asks this at every call.
-use rule::lists::is_empty;
+use basics::lists::is_empty;
+use basics::rrule::frequency_number;
 use rule::rrule::Rule;
 use rule::rrule::Until;
-use rule::rrule::frequency_number;
 ghost use mathlib.Core.Path.{_≡_};
 ghost use mathlib.Core.Bool.{not};
 ghost use Prim.Native.Nat.{_-_, _≤_};

@@ -2,10 +2,10 @@
 use crate::given;
 use crate::given::Given;
 use crate::lists;
+use basics::rrule;
 use machine::Cause;
 use machine::Cursor;
 use machine::State;
-use rule::rrule;
 use rule::rrule::Checked;
 use rule::rrule::Count;
 use rule::rrule::Frequency;

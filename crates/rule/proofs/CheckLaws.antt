@@ -32,15 +32,18 @@ pub table-by-parts : (freq wkst start : ℕ) (until : Until) (l : RawLists) {u e
 unfolding tableOf
 table-by-parts freq wkst start until l eu ee eo ev en ea = rw (eu, ee, eo, ev, en, ea, lacks-is (l .byweekno))
 
+not-refused : (n : Refusal) → Verdict.Refused n ≡ Verdict.Accepted → ⊥
+not-refused n e = absurd (let z : _≡_ {A = ℕ} 0 1 = cc in omega arith)
+
 pub start-in-range : (freq wkst start : ℕ) (until : Until) (l : RawLists) → lowest (tableOf freq wkst start until l) ≡ Verdict.Accepted → start ≤ lastInstant
 unfolding tableOf lowest
 start-in-range freq wkst start until l e = go (ltb 6 freq) (ltb 6 wkst) (ltb lastInstant start) refl e
   where
     go : (f w s : Bool) → ltb lastInstant start ≡ s
         → lowest (rows f w s (untilOut until) (entryOut l) (notRising l) (mixedDays l) (nthMisplaced freq l) (positionsAlone l)) ≡ Verdict.Accepted → start ≤ lastInstant
-    go true w s p q = absurd (let z : _≡_ {A = ℕ} 0 1 = cc in omega arith)
-    go false true s p q = absurd (let z : _≡_ {A = ℕ} 0 1 = cc in omega arith)
-    go false false true p q = absurd (let z : _≡_ {A = ℕ} 0 1 = cc in omega arith)
+    go true w s p q = absurd (not-refused _ q)
+    go false true s p q = absurd (not-refused _ q)
+    go false false true p q = absurd (not-refused _ q)
     go false false false p q = ltb-false lastInstant start p
 
 pub wkst-in-range : (freq wkst start : ℕ) (until : Until) (l : RawLists) → lowest (tableOf freq wkst start until l) ≡ Verdict.Accepted → wkst ≤ 6
@@ -49,8 +52,8 @@ wkst-in-range freq wkst start until l e = go (ltb 6 freq) (ltb 6 wkst) refl e
   where
     go : (f w : Bool) → ltb 6 wkst ≡ w
         → lowest (rows f w (ltb lastInstant start) (untilOut until) (entryOut l) (notRising l) (mixedDays l) (nthMisplaced freq l) (positionsAlone l)) ≡ Verdict.Accepted → wkst ≤ 6
-    go true w p q = absurd (let z : _≡_ {A = ℕ} 0 1 = cc in omega arith)
-    go false true p q = absurd (let z : _≡_ {A = ℕ} 0 1 = cc in omega arith)
+    go true w p q = absurd (not-refused _ q)
+    go false true p q = absurd (not-refused _ q)
     go false false p q = ltb-false 6 wkst p
 
 checked-is : (w : Raw) → answers (lowest (tableOf (w .freq) (w .wkst) (w .start) (w .until) (w .lists)))

@@ -7,14 +7,13 @@ pub mod Ends
 pub mod EntryLaws
 pub mod FillKeeps
 pub mod FillLaws
-pub mod FreshLaws
 pub mod GivenLaws
 pub mod GoodRecords
+pub mod LastWeek
 pub mod Listed
 pub mod Members
 pub mod Moved
 pub mod NthWeekday
-pub mod OneAnswer
 pub mod OneList
 pub mod Order
 pub mod RecordLaws
@@ -24,6 +23,5 @@ pub mod SetLaws
 pub mod Skipped
 pub mod SlotLaws
 pub mod SoundPeriods
-pub mod StarredCharts
 pub mod ValueLaws
 pub mod Weeks

@@ -1,3 +1,2 @@
-// A rule: its types, its fresh cursor, and in specs/ what document 01 says that it means.
-pub mod lists;
+// A rule: its types, and in specs/ what document 01 says that it means.
 pub mod rrule;

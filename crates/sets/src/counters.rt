@@ -7,12 +7,12 @@ use crate::tally;
 use crate::tally::Tally;
 use crate::walk::DAYS;
 use crate::walk::value;
+use basics::rrule::frequency_number;
 use moves::counter_date::increment;
 use periods::counter_date::Counter;
 use periods::counter_date::Reached;
 use periods::counter_date::counter_at;
 use rule::rrule::Frequency;
-use rule::rrule::frequency_number;
 
 // 1970-01-01, as its day.
 const EPOCH: u32 = 719162;

@@ -7,12 +7,14 @@ use crate::facts::TABLE;
 use crate::plain;
 use crate::record;
 use days::filters;
-use days::filters::Asked;
-use days::iterinfo;
-use days::iterinfo::IterInfo;
-use periods::counter_date;
+use days::iterinfo::get_dayset;
 use rule::rrule::Frequency;
 use rule::rrule::Rule;
+use stretches::counter_date;
+use years::iterinfo::IterInfo;
+use years::iterinfo::rebuild;
+use years::lists::Asked;
+use years::lists::asked_lists;
 
 // A year, its first day and the week start.
 pub struct Year {
@@ -39,10 +41,10 @@ pub struct Period {
 // The case of a rule; the nth weekdays count in the year or in the month.
 pub(crate) fn case_of(line: &[u8], year: Year, table: &[u32; TABLE], inyear: bool) -> Case {
     let rule = record::record_of(line, year.wkst);
-    let asked = filters::asked_lists(rule);
+    let asked = asked_lists(rule);
     let byweekno = rule.byweekno;
     let byday = rule.byday;
-    let info = iterinfo::rebuild(asked, inyear, year.wkst, year.number, &byweekno, &byday);
+    let info = rebuild(asked, inyear, year.wkst, year.number, &byweekno, &byday);
     let passing = plain_days(line, table, inyear);
     Case {
         rule,
@@ -83,7 +85,7 @@ pub(crate) fn set_of(case: Case, period: Period) -> Set {
     let weeks = case.info.weeks;
     let nths = case.info.nths;
     let mut places = [FILLER; PLACES];
-    let count = iterinfo::get_dayset(
+    let count = get_dayset(
         case.asked,
         year,
         from,

@@ -13,8 +13,8 @@ use crate::show;
 use crate::tally;
 use crate::tally::Tally;
 use crate::text;
+use basics::rrule::frequency_number;
 use rule::rrule::Frequency;
-use rule::rrule::frequency_number;
 
 // What was compared of a year.
 pub struct Tallies {

@@ -8,12 +8,12 @@ use crate::tally;
 use crate::tally::Tally;
 use crate::ticks;
 use crate::ticks::SECONDS;
+use basics::rrule::frequency_number;
+use clocks::iterinfo::get_clock;
 use moves::counter_date::increment;
 use periods::counter_date::Counter;
 use periods::counter_date::counter_at;
 use rule::rrule::Frequency;
-use rule::rrule::frequency_number;
-use times::iterinfo::get_clock;
 
 // 1970-01-01, as its day.
 const EPOCH: u64 = 719162;

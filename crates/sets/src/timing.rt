@@ -5,10 +5,14 @@ use crate::tally;
 use crate::tally::Tally;
 use crate::ticks;
 use crate::ticks::SECONDS;
+use basics::rrule::frequency_number;
+use clocks::iterinfo::TimeSet;
+use clocks::iterinfo::get_clock;
+use clocks::iterinfo::get_timeset;
 use rule::rrule::Frequency;
-use rule::rrule::frequency_number;
-use times::iterinfo;
-use times::iterinfo::TimeSet;
+use times::iterinfo::open_times;
+use times::iterinfo::time_at;
+use times::iterinfo::times_len;
 
 // A frequency, and the second of the day that a period begins at and the one that it ends before.
 struct Period {
@@ -90,10 +94,10 @@ fn compare_period(rule: &[u8], period: Period, flags: &[bool; SECONDS], before: 
     let byhour = record.byhour;
     let byminute = record.byminute;
     let bysecond = record.bysecond;
-    let clock = iterinfo::get_clock(&byhour, &byminute, &bysecond);
-    let set = iterinfo::get_timeset(&clock);
+    let clock = get_clock(&byhour, &byminute, &bysecond);
+    let set = get_timeset(&clock);
     let freq = period.freq;
-    let open = iterinfo::open_times(freq, period.begins, &clock, set.counts);
+    let open = open_times(freq, period.begins, &clock, set.counts);
     let lists = set.lists;
     let met = TimeSet {
         lists,
@@ -112,18 +116,11 @@ fn times_differ(rule: &[u8], period: Period, set: TimeSet, flags: &[bool; SECOND
         if !ticks::flag(flags, second as u64) {
             continue;
         }
-        let time = iterinfo::time_at(freq, period.begins, set.counts, &lists, t);
+        let time = time_at(freq, period.begins, set.counts, &lists, t);
         differs = differs | is_other(rule, period, t, time, second as u64);
         t = std::num::wrapping_add_u32(t, 1);
     }
-    differs
-        | is_other(
-            rule,
-            period,
-            t,
-            iterinfo::times_len(set.counts) as u64,
-            show::wide(t),
-        )
+    differs | is_other(rule, period, t, times_len(set.counts) as u64, show::wide(t))
 }
 
 // Whether two times or counts differ; if so, both are written.

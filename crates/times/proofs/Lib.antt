@@ -1,5 +1,1 @@
-pub mod Blocks
-pub mod Choices
 pub mod OneAnswer
-pub mod Rows
-pub mod Tied

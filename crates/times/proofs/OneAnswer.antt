@@ -1,22 +1,12 @@
 -- One answer: of each public function, two answers that its promise allows are one. `Post` is the promise as the source states it.
 -- Assumes nothing.
 use Rattle.calendar.proofs.Determines.{Determines, one-answer}
-use Rattle.times.proofs.iterinfo.get_clock.Kinds as get-clock-kinds
-use Rattle.times.proofs.iterinfo.get_clock.Reads as get-clock
-use Rattle.times.proofs.iterinfo.get_timeset.Kinds as get-timeset-kinds
-use Rattle.times.proofs.iterinfo.get_timeset.Reads as get-timeset
 use Rattle.times.proofs.iterinfo.open_times.Kinds as open-times-kinds
 use Rattle.times.proofs.iterinfo.open_times.Reads as open-times
 use Rattle.times.proofs.iterinfo.times_len.Kinds as times-len-kinds
 use Rattle.times.proofs.iterinfo.times_len.Reads as times-len
 use Rattle.times.proofs.iterinfo.time_at.Kinds as time-at-kinds
 use Rattle.times.proofs.iterinfo.time_at.Reads as time-at
-
-pub get-clock-has-one : Determines 1 get-clock-kinds.ps get-clock-kinds.r get-clock.Post
-get-clock-has-one κs a x y e f = one-answer
-
-pub get-timeset-has-one : Determines 1 get-timeset-kinds.ps get-timeset-kinds.r get-timeset.Post
-get-timeset-has-one κs a x y e f = one-answer
 
 pub open-times-has-one : Determines 1 open-times-kinds.ps open-times-kinds.r open-times.Post
 open-times-has-one κs a x y e f = one-answer

@@ -1,2 +1,2 @@
-// The times of a day that pass, and those of a period.
+// The times of a period, by number.
 pub mod iterinfo;

@@ -1,5 +1,5 @@
 // The entries of a list as given. Behind `entry` all numbers are unsigned.
-use rule::lists::is_empty;
+use basics::lists::is_empty;
 use rule::rrule::Range;
 use rule::rrule::Slot;
 ghost use mathlib.Core.Path.{_≡_};

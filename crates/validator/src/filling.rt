@@ -1,10 +1,10 @@
 // Filling in: what an accepted rule takes from its start.
 use crate::entries::take_slot;
+use basics::lists::is_empty;
+use basics::rrule::frequency_number;
 use calendar::utils;
-use rule::lists::is_empty;
 use rule::rrule::Rule;
 use rule::rrule::Slot;
-use rule::rrule::frequency_number;
 ghost use mathlib.Core.Path.{_≡_};
 ghost use Prim.Native.Nat.{_≤_};
 ghost use Rattle.rule.specs.Filling.{takes, noDays, fill};

@@ -5,7 +5,7 @@ use Prim.Native.Nat.{_+_, _<_}
 use native.Mathlib.Omega.{arith}
 use borrow.Author.Tests.{not-false, not-true, ltb-true}
 use Rattle.calendar.specs.Calendar.{daysOf}
-use Rattle.days.proofs.Rows.{days-high}
+use Rattle.nths.proofs.Rows.{days-high}
 use Rattle.days.proofs.FilterLaws.{past-fails, some-filters}
 use Rattle.days.specs.Filters.{dayLists}
 use borrow.Author.Needs.{needs}

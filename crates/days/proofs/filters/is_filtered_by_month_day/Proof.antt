@@ -2,7 +2,7 @@
 -- Assumes nothing.
 use native.Mathlib.Omega.{arith}
 use borrow.Author.Tests.{not-false}
-use Rattle.days.proofs.Rows.{row}
+use Rattle.nths.proofs.Rows.{row}
 use Rattle.days.proofs.FilterLaws.{month-day-read}
 use borrow.Author.Needs.{needs}
 use Rattle.days.proofs.filters.is_filtered_by_month_day.Statement.{statement}

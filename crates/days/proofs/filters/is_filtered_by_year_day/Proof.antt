@@ -2,7 +2,7 @@
 -- Assumes nothing.
 use native.Mathlib.Omega.{arith}
 use borrow.Author.Tests.{not-false}
-use Rattle.days.proofs.Rows.{year-day}
+use Rattle.nths.proofs.Rows.{year-day}
 use Rattle.days.proofs.FilterLaws.{year-day-read}
 use borrow.Author.Needs.{needs}
 use Rattle.days.proofs.filters.is_filtered_by_year_day.Statement.{statement}

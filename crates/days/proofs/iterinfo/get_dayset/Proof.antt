@@ -8,7 +8,7 @@ use borrow.Author.Tests.{not-true}
 use Rattle.rule.proofs.FillLaws.{both}
 use Rattle.days.specs.Filters.{dayLists}
 use Rattle.days.specs.DaySets.{markedDays, monthDays, yearDays, weekdayDays}
-use Rattle.days.proofs.Rows.{days-high}
+use Rattle.nths.proofs.Rows.{days-high}
 use Rattle.days.proofs.Stretches.{by-month, by-year-day, by-weeks, by-none, by-weekday, by-nths, as-set}
 use borrow.Author.Needs.{needs}
 use Rattle.days.proofs.iterinfo.get_dayset.Statement.{statement}

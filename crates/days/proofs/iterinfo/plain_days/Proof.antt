@@ -4,7 +4,7 @@ use Prim.Native.Nat.{ℕ}
 use mathlib.Core.Path.{ap, sym}
 use native.Mathlib.Omega.{arith}
 use Rattle.days.specs.DaySets.{allDays}
-use Rattle.days.proofs.Rows.{days-high}
+use Rattle.nths.proofs.Rows.{days-high}
 use Rattle.days.proofs.Stretches.{as-set}
 use borrow.Author.Needs.{needs}
 use Rattle.days.proofs.iterinfo.plain_days.Statement.{statement}

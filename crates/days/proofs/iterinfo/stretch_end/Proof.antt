@@ -1,7 +1,7 @@
 -- `days::iterinfo::stretch_end` meets its contract.
 -- Assumes nothing.
 use native.Mathlib.Omega.{arith}
-use Rattle.days.proofs.Rows.{days-high}
+use Rattle.nths.proofs.Rows.{days-high}
 use borrow.Author.Needs.{needs}
 use Rattle.days.proofs.iterinfo.stretch_end.Statement.{statement}
 use Rattle.days.proofs.iterinfo.stretch_end.Tie as tie

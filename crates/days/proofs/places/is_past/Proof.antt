@@ -3,7 +3,7 @@
 use Prim.Native.Nat.{_+_}
 use native.Mathlib.Omega.{arith}
 use Rattle.calendar.specs.Calendar.{daysOf}
-use Rattle.days.proofs.Rows.{days-high, not-below}
+use Rattle.nths.proofs.Rows.{days-high, not-below}
 use borrow.Author.Needs.{needs}
 use Rattle.days.proofs.places.is_past.Statement.{statement}
 use Rattle.days.proofs.places.is_past.Tie as tie

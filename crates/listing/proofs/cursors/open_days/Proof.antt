@@ -10,12 +10,12 @@ use lib.Seq.{sets}
 use borrow.Author.Needs.{needs}
 use Rattle.calendar.specs.Calendar.{newYear, yearOf}
 use Rattle.calendar.proofs.Years.{year-of-is}
-use Rattle.periods.specs.declared.counter_date.Days.{Days}
-use Rattle.days.specs.declared.filters.Asked.{Asked}
-use Rattle.days.specs.declared.iterinfo.IterInfo.{IterInfo}
+use Rattle.stretches.specs.declared.counter_date.Days.{Days}
+use Rattle.years.specs.declared.lists.Asked.{Asked}
+use Rattle.years.specs.declared.iterinfo.IterInfo.{IterInfo}
 use Rattle.days.specs.DaySets.{daySet}
 use Rattle.days.specs.Filters.{DayLists}
-use Rattle.days.specs.Info.{infoOf}
+use Rattle.years.specs.Info.{infoOf}
 use Rattle.listing.specs.declared.cursors.YearDays.{YearDays}
 use Rattle.listing.specs.Poised.{placesOf, placesFrom, yearDaysOf}
 use Rattle.listing.proofs.Spans.{info-first, year-high}

@@ -10,11 +10,10 @@ use Rattle.rule.specs.declared.rrule.Rule.{Rule}
 use Rattle.rule.specs.declared.rrule.Until.{Until}
 use Rattle.rule.specs.Lists.{isEmpty}
 use Rattle.rule.specs.Filling.{frequencyNumber}
-use Rattle.days.specs.declared.filters.Asked.{Asked}
-use Rattle.days.specs.Filters.{askedOf}
-use Rattle.days.specs.Info.{countsInYear}
-use Rattle.times.specs.declared.iterinfo.TimeSet.{TimeSet}
-use Rattle.times.specs.TimeSets.{clockOf, timesetOf, clockIn, setsIn}
+use Rattle.years.specs.declared.lists.Asked.{Asked}
+use Rattle.years.specs.Info.{askedOf, countsInYear}
+use Rattle.clocks.specs.declared.iterinfo.TimeSet.{TimeSet}
+use Rattle.clocks.specs.Clocks.{clockOf, timesetOf, clockIn, setsIn}
 use Rattle.listing.specs.declared.plan.Plan.{Plan}
 use Rattle.listing.specs.Plans.{untilSecond, boundsOf, planOf}
 use Rattle.listing.proofs.plan.plan_of.Statement.{statement}

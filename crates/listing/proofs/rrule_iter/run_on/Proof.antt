@@ -13,8 +13,8 @@ use Rattle.machine.specs.Compute.{runs}
 use Rattle.rule.specs.Run.{periods}
 use Rattle.walks.specs.Walks.{nowOf}
 use Rattle.rule.specs.Moves.{move}
-use Rattle.periods.specs.declared.counter_date.Days.{Days}
-use Rattle.periods.specs.Counters.{daysIn}
+use Rattle.stretches.specs.declared.counter_date.Days.{Days}
+use Rattle.stretches.specs.Stretches.{daysIn}
 use Rattle.moves.proofs.Ties.{reached-to, reached-no-tick, reached-range}
 use Rattle.walks.specs.declared.rrule_iter.Held.{Held}
 use Rattle.walks.proofs.ByBounds.{walk-by-bounds}

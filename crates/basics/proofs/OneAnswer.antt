@@ -1,0 +1,33 @@
+-- One answer: of each public function, two answers that its promise allows are one. `Post` is the promise as the source states it.
+-- Assumes nothing.
+use Rattle.calendar.proofs.Determines.{Determines, one-answer}
+use Rattle.basics.proofs.faults.fault_number.Kinds as fault-number-kinds
+use Rattle.basics.proofs.faults.fault_number.Reads as fault-number
+use Rattle.basics.proofs.faults.refused.Kinds as refused-kinds
+use Rattle.basics.proofs.faults.refused.Reads as refused
+use Rattle.basics.proofs.lists.is_empty.Kinds as is-empty-kinds
+use Rattle.basics.proofs.lists.is_empty.Reads as is-empty
+use Rattle.basics.proofs.rrule.frequency_number.Kinds as frequency-number-kinds
+use Rattle.basics.proofs.rrule.frequency_number.Reads as frequency-number
+use Rattle.basics.proofs.rrule.refusal_number.Kinds as refusal-number-kinds
+use Rattle.basics.proofs.rrule.refusal_number.Reads as refusal-number
+use Rattle.basics.proofs.rrule.fresh.Kinds as fresh-kinds
+use Rattle.basics.proofs.rrule.fresh.Reads as fresh
+
+pub fault-number-has-one : Determines 0 fault-number-kinds.ps fault-number-kinds.r fault-number.Post
+fault-number-has-one κs a x y e f = one-answer
+
+pub refused-has-one : Determines 0 refused-kinds.ps refused-kinds.r refused.Post
+refused-has-one κs a x y e f = one-answer
+
+pub refusal-number-has-one : Determines 0 refusal-number-kinds.ps refusal-number-kinds.r refusal-number.Post
+refusal-number-has-one κs a x y e f = one-answer
+
+pub fresh-has-one : Determines 0 fresh-kinds.ps fresh-kinds.r fresh.Post
+fresh-has-one κs a x y e f = one-answer
+
+pub frequency-number-has-one : Determines 0 frequency-number-kinds.ps frequency-number-kinds.r frequency-number.Post
+frequency-number-has-one κs a x y e f = one-answer
+
+pub is-empty-has-one : Determines 1 is-empty-kinds.ps is-empty-kinds.r is-empty.Post
+is-empty-has-one κs a x y e f = one-answer

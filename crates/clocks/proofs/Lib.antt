@@ -1,0 +1,5 @@
+pub mod Blocks
+pub mod Choices
+pub mod OneAnswer
+pub mod Rows
+pub mod Tied

@@ -1,0 +1,2 @@
+// The hours, minutes and seconds that pass.
+pub mod iterinfo;

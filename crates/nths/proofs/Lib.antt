@@ -1,0 +1,6 @@
+pub mod MarkLaws
+pub mod NthLaws
+pub mod OneAnswer
+pub mod Rows
+pub mod Slots
+pub mod StandLaws

@@ -1,0 +1,2 @@
+// The days of a period.
+pub mod counter_date;
