@@ -7,7 +7,7 @@ use nths::places::year_day_from_end;
 use weeks::yearinfo::Year;
 use years::lists::Asked;
 ghost use mathlib.Core.Path.{_≡_};
-ghost use mathlib.Core.Bool.{false, not};
+ghost use mathlib.Core.Bool.{false, not, _&&_, _||_};
 ghost use Prim.Native.Nat.{_+_, _<_};
 ghost use lib.ListN.{getD};
 ghost use Rattle.calendar.specs.Calendar.{daysOf};
@@ -69,8 +69,21 @@ fn is_filtered_by_week_number(asked: bool, place: usize, weeks: &[bool; 373]) ->
     !weeks[place]
 }
 
-// BYDAY is one test: some entry passes, every weekday or nth.
-pub(crate) fn is_filtered_by_weekday(
+// BYDAY is one test: some entry passes, every weekday or nth. Here the weekday is known.
+pub(crate) fn is_filtered_on(
+    nth: bool,
+    weekday: usize,
+    place: usize,
+    byday: &[bool; 749],
+    nths: &[bool; 373],
+) -> bool
+    requires { ⌜ (weekday < 7) × (place < 373) ⌝ }
+    ensures { λ r. ⌜ r ≡ not (getD (now (byday .entry)) (371 + weekday) false || (nth && getD (now (nths .entry)) place false)) ⌝ }
+{
+    !(byday[371 + weekday] | (nth & nths[place]))
+}
+
+fn is_filtered_by_weekday(
     asked: bool,
     nth: bool,
     first: u64,
@@ -84,8 +97,7 @@ pub(crate) fn is_filtered_by_weekday(
     if !asked {
         return false;
     }
-    let weekday = weekday_at(first, place);
-    !(byday[371 + weekday] | (nth & nths[place]))
+    is_filtered_on(nth, weekday_at(first, place), place, byday, nths)
 }
 
 // Whether the day at a place of a year's tables is filtered out, by a list or as there is no such place.

@@ -1,8 +1,10 @@
 // Day sets.
 use crate::filters::is_filtered;
 use crate::filters::is_filtered_by_month;
-use crate::filters::is_filtered_by_weekday;
 use crate::filters::is_filtered_by_year_day;
+use crate::filters::is_filtered_on;
+use crate::places::next_weekday;
+use crate::places::weekday_at;
 use nths::places::days_of;
 use weeks::yearinfo::Year;
 use years::lists::Asked;
@@ -222,7 +224,7 @@ fn year_days(
     found
 }
 
-// The places of a stretch that pass BYDAY.
+// The places of a stretch that pass BYDAY. The weekday is carried from day to day.
 fn weekday_days<'a, 'b>(
     nth: bool,
     first: u64,
@@ -236,9 +238,15 @@ fn weekday_days<'a, 'b>(
     ensures count { λ r. ⌜ r ≡ length (weekdayDays nth first (now (byday .entry)) (now (nths .entry)) from end) ⌝ }
     ensures places { λ r. ⌜ now (days .exit) ≡ sets (now (days .entry)) 0 (weekdayDays nth first (now (byday .entry)) (now (nths .entry)) from end) ⌝ }
 {
+    if end <= from {
+        return 0;
+    }
     let mut passed: usize = 0;
+    let mut weekday = weekday_at(first, from);
     for place in from..end {
-        if is_filtered_by_weekday(true, nth, first, place, byday, nths) {
+        let today = weekday;
+        weekday = next_weekday(today);
+        if is_filtered_on(nth, today, place, byday, nths) {
             continue;
         }
         days[passed] = place as u16;

@@ -2,7 +2,7 @@
 use nths::places::days_of;
 ghost use mathlib.Core.Path.{_≡_};
 ghost use mathlib.Core.Bool.{not};
-ghost use Prim.Native.Nat.{_+_, _<_};
+ghost use Prim.Native.Nat.{_+_, _%_, _<_};
 ghost use Rattle.calendar.specs.Calendar.{weekday};
 ghost use Rattle.nths.specs.Masks.{inTables};
 
@@ -19,4 +19,12 @@ pub(crate) fn weekday_at(first: u64, place: usize) -> usize
     ensures { λ r. ⌜ r ≡ weekday (first + place) ⌝ }
 {
     ((first % 7 + place as u64) % 7) as usize
+}
+
+// The weekday after another.
+pub(crate) fn next_weekday(weekday: usize) -> usize
+    requires { ⌜ weekday < 7 ⌝ }
+    ensures { λ r. ⌜ r ≡ (weekday + 1) % 7 ⌝ }
+{
+    if weekday < 6 { weekday + 1 } else { 0 }
 }

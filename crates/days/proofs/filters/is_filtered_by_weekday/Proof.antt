@@ -1,6 +1,6 @@
 -- `days::filters::is_filtered_by_weekday` meets its contract.
 -- Assumes nothing.
-use native.Mathlib.Omega.{arith}
+use mathlib.Core.Path.{_∙_}
 use borrow.Author.Tests.{not-false}
 use Rattle.days.proofs.FilterLaws.{weekday-read}
 use borrow.Author.Needs.{needs}
@@ -13,25 +13,15 @@ returns c = search needs
 weekday-at-requires : tie.Need-weekday-at-requires
 weekday-at-requires c κs = search needs
 
-add-result : tie.Need-add-result
-add-result c = search needs
-
-element-copy-out-result : tie.Need-element-copy-out-result
-element-copy-out-result c = search needs
-
-element-copy-out-result-2 : tie.Need-element-copy-out-result-2
-element-copy-out-result-2 c = search needs
+is-filtered-on-requires : tie.Need-is-filtered-on-requires
+is-filtered-on-requires c κs = search needs
 
 returns-2 : tie.Need-returns-2
-returns-2 c = let a = c .before .before .before .before .args in weekday-read (a .asked) (a .nth) (a .first) (a .byday .now) (a .nths .now) (a .place) (c .before .before .weekday-at .result) (not-false _ (c .before .before .before .if1 .left)) (c .before .before .weekday-at .ensures)
+returns-2 c =
+    let a = c .before .before .before .args in
+    c .is-filtered-on .ensures
+    ∙ weekday-read (a .asked) (a .nth) (a .first) (a .byday .now) (a .nths .now) (a .place) (c .before .weekday-at .result) (not-false _ (c .before .before .if1 .left)) (c .before .weekday-at .ensures)
 
 pub is-filtered-by-weekday-spec : {M : Type 1} → statement M
 is-filtered-by-weekday-spec =
-    tie.close
-    (tie.spec
-    returns
-    weekday-at-requires
-    add-result
-    element-copy-out-result
-    element-copy-out-result-2
-    returns-2)
+    tie.close (tie.spec returns weekday-at-requires is-filtered-on-requires returns-2)

@@ -1,11 +1,11 @@
 -- `days::iterinfo::is_plain` meets its contract.
 -- Assumes nothing.
-use borrow.Author.Needs.{needs}
+use mathlib.Core.Path.{refl}
 use Rattle.days.proofs.iterinfo.is_plain.Statement.{statement}
 use Rattle.days.proofs.iterinfo.is_plain.Tie as tie
 
 returns : tie.Need-returns
-returns c = search needs
+returns c = refl
 
 pub is-plain-spec : {M : Type 1} → statement M
 is-plain-spec = tie.close (tie.spec returns)
