@@ -17,7 +17,7 @@ use Rattle.weeks.specs.declared.yearinfo.Year.{Year}
 use Rattle.years.specs.declared.lists.Asked.{Asked}
 use Rattle.nths.specs.Masks.{inTables}
 use Rattle.days.specs.Filters.{DayLists, monthAt, yeardayAt, weekdayAt, placePasses}
-use Rattle.days.specs.DaySets.{daySet, isPlain, isMixed, hasEvery, allDays, markedDays, monthDays, yearDays, weekdayDays}
+use Rattle.days.specs.DaySets.{daySet, isPlain, isMonthAlone, isMixed, hasEvery, allDays, markedDays, monthDays, yearDays, weekdayDays}
 use Rattle.nths.proofs.Rows.{days-high}
 use Rattle.nths.proofs.Slots.{every-slot}
 use Rattle.days.proofs.FilterLaws.{past-fails}
@@ -101,6 +101,19 @@ module _ (a : Asked) (y : Year) (l : DayLists) (weeks nths : List Bool) (from to
       let b = neither (a .yearday) (a .weekno || a .day) r in
       let c = neither (a .weekno) (a .day) (b .1) in
       by-test (monthAt (y .long) (l .bymonth)) (λ i t. rw (t, k, u .monthday, b .0, c .0, c .1) (and-true (monthAt (y .long) (l .bymonth) i)))
+
+  -- alone, it is not mixed with another list
+  pub by-month-alone : isMonthAlone a ≡ true → daySet a y l weeks nths from to ≡ monthDays (y .long) (l .bymonth) from (min to (daysOf (y .long) + 7))
+  by-month-alone e = let u = alone (a .month) (a .monthday) (a .yearday) (a .weekno) (a .day) e in by-month (u .1) (u .0)
+    where
+      alone : (m d n w b : Bool) → (m && not (d || (n || (w || b)))) ≡ true
+          → (m ≡ true) × ((d || ((m && (n || (w || b))) || ((n && (w || b)) || (w && b)))) ≡ false)
+      alone true false false false false e = (refl, refl)
+      alone true false false false true e = absurd (let z : _≡_ {A = ℕ} 0 1 = cc in omega arith)
+      alone true false false true b e = absurd (let z : _≡_ {A = ℕ} 0 1 = cc in omega arith)
+      alone true false true w b e = absurd (let z : _≡_ {A = ℕ} 0 1 = cc in omega arith)
+      alone true true n w b e = absurd (let z : _≡_ {A = ℕ} 0 1 = cc in omega arith)
+      alone false d n w b e = absurd (let z : _≡_ {A = ℕ} 0 1 = cc in omega arith)
 
   pub by-year-day : isMixed a ≡ false → a .month ≡ false → a .yearday ≡ true
       → daySet a y l weeks nths from to ≡ yearDays (y .long) (y .nextlong) (l .byyearday) from (min to (daysOf (y .long) + 7))

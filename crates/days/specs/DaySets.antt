@@ -19,6 +19,10 @@ daySet a y l weeks nths from to = passing (placePasses a y l weeks nths) (min to
 abbrev pub isPlain : Asked → Bool
 isPlain a = not (a .month || (a .monthday || (a .yearday || (a .weekno || a .day))))
 
+-- BYMONTH is asked, and nothing beside it.
+abbrev pub isMonthAlone : Asked → Bool
+isMonthAlone a = a .month && not (a .monthday || (a .yearday || (a .weekno || a .day)))
+
 -- More than one list is asked, or BYMONTHDAY: no single test decides.
 abbrev pub isMixed : Asked → Bool
 isMixed a = a .monthday || ((a .month && (a .yearday || (a .weekno || a .day))) || ((a .yearday && (a .weekno || a .day)) || (a .weekno && a .day)))

@@ -14,7 +14,7 @@ ghost use lib.ListN.{length};
 ghost use lib.Seq.{sets};
 ghost use Rattle.days.specs.Filters.{dayLists};
 ghost use Rattle.calendar.specs.Calendar.{daysOf};
-ghost use Rattle.days.specs.DaySets.{daySet, isPlain, isMixed, isBlank, FirstMarked, hasEvery, allDays, markedDays, monthDays, yearDays, weekdayDays};
+ghost use Rattle.days.specs.DaySets.{daySet, isPlain, isMonthAlone, isMixed, isBlank, FirstMarked, hasEvery, allDays, markedDays, monthDays, yearDays, weekdayDays};
 
 // A stretch ends with the tables.
 fn table_end(to: usize) -> usize
@@ -67,6 +67,13 @@ pub fn is_plain(asked: Asked) -> bool
     ensures { λ r. ⌜ r ≡ isPlain asked ⌝ }
 {
     !(asked.month | (asked.monthday | (asked.yearday | (asked.weekno | asked.day))))
+}
+
+// Whether BYMONTH alone is asked.
+pub fn is_month_alone(asked: Asked) -> bool
+    ensures { λ r. ⌜ r ≡ isMonthAlone asked ⌝ }
+{
+    asked.month & !(asked.monthday | (asked.yearday | (asked.weekno | asked.day)))
 }
 
 // Whether more than one list is asked, or BYMONTHDAY: then each day goes through the filters.
@@ -198,6 +205,20 @@ fn month_days(
         taken += 1;
     }
     taken
+}
+
+// The day set where BYMONTH alone is asked.
+pub fn days_by_month(
+    long: bool,
+    from: usize,
+    to: usize,
+    bymonth: &[bool; 12],
+    days: &mut [u16; 373],
+) -> usize
+    ensures count { λ r. ⌜ r ≡ length (monthDays long (now (bymonth .entry)) from (min to (daysOf long + 7))) ⌝ }
+    ensures places { λ r. ⌜ now (days .exit) ≡ sets (now (days .entry)) 0 (monthDays long (now (bymonth .entry)) from (min to (daysOf long + 7))) ⌝ }
+{
+    month_days(long, from, stretch_end(long, to), bymonth, days)
 }
 
 // The places of a stretch that pass BYYEARDAY.

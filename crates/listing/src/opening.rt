@@ -1,5 +1,7 @@
 // A period opened: its candidates by number, and how many are kept.
+use days::iterinfo::days_by_month;
 use days::iterinfo::get_dayset;
+use days::iterinfo::is_month_alone;
 use days::iterinfo::is_plain;
 use days::iterinfo::plain_days;
 use positions::pos_list::build_pos_list;
@@ -33,7 +35,7 @@ pub(crate) fn covers(year: Year, day: u64) -> bool
     if year.long { place < 366 } else { place < 365 }
 }
 
-// The passing days of a period. Where no list is asked they are all its days, and get_dayset, which is long, isn't called for each period.
+// The passing days of a period. Where no list is asked, or BYMONTH alone, get_dayset, which is long, isn't called for each period.
 pub(crate) fn period_days<'a, 'b>(
     asked: Asked,
     year: Year,
@@ -52,6 +54,9 @@ pub(crate) fn period_days<'a, 'b>(
 {
     if is_plain(asked) {
         return plain_days(year.long, from, to, days);
+    }
+    if is_month_alone(asked) {
+        return days_by_month(year.long, from, to, bymonth, days);
     }
     get_dayset(
         asked,
