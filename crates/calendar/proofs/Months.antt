@@ -11,7 +11,8 @@ use lib.ListN.{take, List·getD-eq-default}
 use lib.Seq.{take-all}
 use lib.Dec.{eqb, leb}
 use borrow.Author.Tests.{eqb-true, leb-true, le-ltb, lt-ltb}
-use Rattle.calendar.specs.Calendar.{if_then_else_, leap, daysOf, newYear, monthLengths, monthLength, total, daysBeforeMonth, firstOf, MonthDay, monthDayOf, noDay, tableDay}
+use Rattle.calendar.specs.Calendar.{if_then_else_, leap, daysOf, newYear, monthLengths, monthLength, total, daysBeforeMonth, firstOf, MonthDay, monthDayOf, noDay, dayInMonth, dayBetween, tableDay}
+use Rattle.calendar.specs.declared.masks.DayInMonth.{DayInMonth}
 use Rattle.calendar.specs.Claims.{MonthsFollow, DecemberEnds}
 use Rattle.calendar.proofs.Table.{same-below, same-from}
 use Rattle.calendar.proofs.Years.{years-follow}
@@ -129,7 +130,55 @@ unfolding tableDay daysBeforeMonth
 next-january true k l h = let e : 366 + (k - 306) ≡ 60 + k = omega arith in same-from (λ (n : ℕ). 1) (monthIn true) 0 366 7 refl (k - 306) (omega arith) ∙ ap (monthIn true) e
 next-january false k l h = let e : 365 + (k - 306) ≡ 59 + k = omega arith in same-from (λ (n : ℕ). 1) (monthIn false) 0 365 7 refl (k - 306) (omega arith) ∙ ap (monthIn false) e
 
+-- March begins on the 59th or 60th day after 1 January
+pub march-is : (long : Bool) → (59 ≤ daysBeforeMonth long 3) × (daysBeforeMonth long 3 ≤ 60)
+unfolding daysBeforeMonth
+march-is true = (omega arith, omega arith)
+march-is false = (omega arith, omega arith)
+
 pub tables-end : (long : Bool) → daysBeforeMonth long 3 + 313 ≡ daysOf long + 7
 unfolding daysBeforeMonth
 tables-end true = refl
 tables-end false = refl
+
+-- ---- and its day in the month
+
+abbrev dayIn : Bool → ℕ → DayInMonth
+dayIn long n = dayInMonth (tableDay long n)
+
+abbrev none : DayInMonth
+none = record { day = 0; left = 0 }
+
+-- the day so many days after 1 March
+abbrev pub marchDay : ℕ → DayInMonth
+marchDay k = dayBetween k ((153 * ((5 * k + 2) / 153) + 2) / 5) ((153 * ((5 * k + 2) / 153) + 155) / 5)
+
+pub january-day : (long : Bool) (n : ℕ) → n < 31 → dayBetween n 0 31 ≡ dayInMonth (tableDay long n)
+unfolding tableDay
+january-day true n h = same-below (λ (n : ℕ). dayBetween n 0 31) (dayIn true) none 31 refl n h
+january-day false n h = same-below (λ (n : ℕ). dayBetween n 0 31) (dayIn false) none 31 refl n h
+
+pub february-day : (long : Bool) (n march : ℕ) → march ≡ daysBeforeMonth long 3 → 31 ≤ n → n < march → dayBetween n 31 march ≡ dayInMonth (tableDay long n)
+unfolding tableDay daysBeforeMonth
+february-day true n march m l h =
+    let e : 31 + (n - 31) ≡ n = omega arith in
+    ap (λ (x : ℕ). dayBetween n 31 x) m ∙ ap (λ (x : ℕ). dayBetween x 31 60) (sym e) ∙ same-from (λ (n : ℕ). dayBetween n 31 60) (dayIn true) none 31 29 refl (n - 31) (omega arith) ∙ ap (dayIn true) e
+february-day false n march m l h =
+    let e : 31 + (n - 31) ≡ n = omega arith in
+    ap (λ (x : ℕ). dayBetween n 31 x) m ∙ ap (λ (x : ℕ). dayBetween x 31 59) (sym e) ∙ same-from (λ (n : ℕ). dayBetween n 31 59) (dayIn false) none 31 28 refl (n - 31) (omega arith) ∙ ap (dayIn false) e
+
+pub march-day : (long : Bool) (k : ℕ) → k < 306 → marchDay k ≡ dayInMonth (tableDay long (daysBeforeMonth long 3 + k))
+unfolding tableDay daysBeforeMonth
+march-day true k h = let e : 60 + k - 60 ≡ k = omega arith in ap marchDay (sym e) ∙ same-from (λ (n : ℕ). marchDay (n - 60)) (dayIn true) none 60 306 refl k h
+march-day false k h = let e : 59 + k - 59 ≡ k = omega arith in ap marchDay (sym e) ∙ same-from (λ (n : ℕ). marchDay (n - 59)) (dayIn false) none 59 306 refl k h
+
+pub next-january-day : (long : Bool) (k : ℕ) → 306 ≤ k → k < 313 → dayBetween k 306 337 ≡ dayInMonth (tableDay long (daysBeforeMonth long 3 + k))
+unfolding tableDay daysBeforeMonth
+next-january-day true k l h =
+    let e : 366 + (k - 306) ≡ 60 + k = omega arith in
+    let z : k ≡ 366 + (k - 306) - 60 = omega arith in
+    ap (λ (x : ℕ). dayBetween x 306 337) z ∙ same-from (λ (n : ℕ). dayBetween (n - 60) 306 337) (dayIn true) none 366 7 refl (k - 306) (omega arith) ∙ ap (dayIn true) e
+next-january-day false k l h =
+    let e : 365 + (k - 306) ≡ 59 + k = omega arith in
+    let z : k ≡ 365 + (k - 306) - 59 = omega arith in
+    ap (λ (x : ℕ). dayBetween x 306 337) z ∙ same-from (λ (n : ℕ). dayBetween (n - 59) 306 337) (dayIn false) none 365 7 refl (k - 306) (omega arith) ∙ ap (dayIn false) e

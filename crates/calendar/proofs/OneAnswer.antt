@@ -5,6 +5,8 @@ use Rattle.calendar.proofs.masks.month_at.Kinds as month-at-kinds
 use Rattle.calendar.proofs.masks.month_at.Reads as month-at
 use Rattle.calendar.proofs.masks.month_of_place.Kinds as month-of-place-kinds
 use Rattle.calendar.proofs.masks.month_of_place.Reads as month-of-place
+use Rattle.calendar.proofs.masks.day_of_place.Kinds as day-of-place-kinds
+use Rattle.calendar.proofs.masks.day_of_place.Reads as day-of-place
 use Rattle.calendar.proofs.masks.month_day_at.Kinds as month-day-at-kinds
 use Rattle.calendar.proofs.masks.month_day_at.Reads as month-day-at
 use Rattle.calendar.proofs.masks.month_day_from_end_at.Kinds as month-day-from-end-at-kinds
@@ -35,6 +37,9 @@ month-at-has-one κs a x y e f = one-answer
 
 pub month-of-place-has-one : Determines 0 month-of-place-kinds.ps month-of-place-kinds.r month-of-place.Post
 month-of-place-has-one κs a x y e f = one-answer
+
+pub day-of-place-has-one : Determines 0 day-of-place-kinds.ps day-of-place-kinds.r day-of-place.Post
+day-of-place-has-one κs a x y e f = one-answer
 
 pub month-day-at-has-one : Determines 0 month-day-at-kinds.ps month-day-at-kinds.r month-day-at.Post
 month-day-at-has-one κs a x y e f = one-answer

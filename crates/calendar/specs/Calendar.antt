@@ -5,6 +5,7 @@ use mathlib.Core.Bool.{Bool, true, false, not, _&&_, _||_}
 use mathlib.Core.List.{List, [], _∷_}
 use lib.ListN.{take, getD}
 use lib.Dec.{eqb, ltb}
+use Rattle.calendar.specs.declared.masks.DayInMonth.{DayInMonth}
 use Rattle.calendar.specs.declared.utils.Date.{Date}
 
 infix 1 if_then_else_
@@ -88,6 +89,13 @@ monthDayOf long n = monthDayFrom (monthLengths long) 1 n
 -- the day of the month from the month's end: 1 is the last
 abbrev pub fromEnd : MonthDay → ℕ
 fromEnd p = p .length - (p .day - 1)
+
+abbrev pub dayInMonth : MonthDay → DayInMonth
+dayInMonth p = record { day = p .day; left = fromEnd p }
+
+-- the day at a place of a month that lies between two places
+abbrev pub dayBetween : (place from to : ℕ) → DayInMonth
+dayBetween place from to = record { day = place - from + 1; left = to - place }
 
 -- The year tables go through the year and on through the first seven days of the next January; past them there is no day.
 unfoldable pub tableDay : Bool → ℕ → MonthDay

@@ -9,8 +9,14 @@ use crate::masks_366::MONTH_366_RANGE;
 use crate::masks_366::MONTH_DAY_366;
 use crate::masks_366::MONTH_DAY_FROM_END_366;
 ghost use mathlib.Core.Path.{_≡_};
-ghost use Prim.Native.Nat.{_+_, _-_, min};
-ghost use Rattle.calendar.specs.Calendar.{tableDay, fromEnd, daysBeforeMonth, monthLength};
+ghost use Prim.Native.Nat.{_+_, _-_, _≤_, _<_, min};
+ghost use Rattle.calendar.specs.Calendar.{tableDay, fromEnd, dayInMonth, dayBetween, daysBeforeMonth, monthLength};
+
+// A day of a month: which, and how many are left with it.
+pub struct DayInMonth {
+    pub day: u8,
+    pub left: u8,
+}
 
 // The month of the day at a place of a year's table, counted from 0; 0 past the table.
 pub fn month_at(long: bool, place: usize) -> u8
@@ -37,6 +43,39 @@ pub fn month_of_place(long: bool, place: usize) -> u8
         return ((5 * past + 2) / 153 + 3) as u8;
     }
     if past < 313 { 1 } else { 0 }
+}
+
+// Its day of the month, and that from the month's end, reckoned in the same way.
+pub fn day_of_place(long: bool, place: usize) -> DayInMonth
+    ensures { λ r. ⌜ r ≡ dayInMonth (tableDay long place) ⌝ }
+{
+    let march = days_before_month(long, 3) as usize;
+    if place < 31 {
+        return day_between(place, 0, 31);
+    }
+    if place < march {
+        return day_between(place, 31, march);
+    }
+    let past = place - march;
+    if past < 306 {
+        let month = (5 * past + 2) / 153;
+        return day_between(past, (153 * month + 2) / 5, (153 * month + 155) / 5);
+    }
+    if past < 313 {
+        return day_between(past, 306, 337);
+    }
+    DayInMonth { day: 0, left: 0 }
+}
+
+// The day at a place of a month that lies between two places.
+fn day_between(place: usize, from: usize, to: usize) -> DayInMonth
+    requires { ⌜ (from ≤ place) × (place < to) × (to ≤ from + 31) ⌝ }
+    ensures { λ r. ⌜ r ≡ dayBetween place from to ⌝ }
+{
+    DayInMonth {
+        day: (place - from + 1) as u8,
+        left: (to - place) as u8,
+    }
 }
 
 // Its day of the month; 0 past the table.

@@ -36,8 +36,9 @@ fn is_filtered_by_month_day(asked: bool, long: bool, place: usize, bymonthday: &
     if !asked {
         return false;
     }
-    let day = masks::month_day_at(long, place) as usize;
-    let left = masks::month_day_from_end_at(long, place) as usize;
+    let at = masks::day_of_place(long, place);
+    let day = at.day as usize;
+    let left = at.left as usize;
     !(bymonthday[30 + day] | bymonthday[31 - left])
 }
 
