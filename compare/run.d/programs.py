@@ -1,4 +1,5 @@
 """The programs that are asked: each reads a rule a line and answers a line."""
+import fcntl
 import os
 import select
 import subprocess
@@ -62,12 +63,15 @@ class Mended:
         self.processes = {}
 
     def copy(self):
-        """The copy's path. One that is younger than what it is made from is taken as it is."""
+        """The copy's path. One that is younger than what it is made from is taken as it is. Of two runs at once one makes it."""
         made = self.explain.COPY / "target" / "release" / "oracle"
         sources = (Path(self.explain.__file__), Path(self.oracle))
-        if made.is_file() and all(made.stat().st_mtime > source.stat().st_mtime for source in sources):
-            return made
-        return self.explain.make_copy(Path(self.oracle).resolve())
+        self.explain.COPY.parent.mkdir(parents=True, exist_ok=True)
+        with open(f"{self.explain.COPY}.lock", "w") as lock:
+            fcntl.flock(lock, fcntl.LOCK_EX)
+            if made.is_file() and all(made.stat().st_mtime > source.stat().st_mtime for source in sources):
+                return made
+            return self.explain.make_copy(Path(self.oracle).resolve())
 
     def start(self, places):
         self.path = self.path or self.copy()
