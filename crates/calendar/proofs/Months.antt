@@ -14,7 +14,7 @@ use borrow.Author.Tests.{eqb-true, leb-true, le-ltb, lt-ltb}
 use Rattle.calendar.specs.Calendar.{if_then_else_, leap, daysOf, newYear, monthLengths, monthLength, total, daysBeforeMonth, firstOf, MonthDay, monthDayOf, noDay, dayInMonth, dayBetween, tableDay}
 use Rattle.calendar.specs.declared.masks.DayInMonth.{DayInMonth}
 use Rattle.calendar.specs.Claims.{MonthsFollow, DecemberEnds}
-use Rattle.calendar.proofs.Table.{same-below, same-from}
+use Rattle.calendar.proofs.Table.{tab, same-below, same-from}
 use Rattle.calendar.proofs.Years.{years-follow}
 
 pub next-month : (long : Bool) (m : ℕ) → m ≤ 12 → daysBeforeMonth long (m + 1) ≡ daysBeforeMonth long m + monthLength long m
@@ -104,31 +104,40 @@ pub in-year : (long : Bool) (n : ℕ) → n < daysOf long → tableDay long n �
 unfolding tableDay
 in-year long n h = rw (lt-ltb n (daysOf long + 7) (omega arith), mod-eq-of-lt h, tableDay)
 
--- ---- the month of a place, reckoned from 1 March
+-- ---- the day at a place, reckoned from 1 March
 
-abbrev monthIn : Bool → ℕ → ℕ
-monthIn long n = tableDay long n .month
+-- the day at a place of a month that lies between two places
+abbrev pub inMonth : (month place from to : ℕ) → MonthDay
+inMonth month place from to = record { month = month; day = place - from + 1; length = to - from }
 
-pub january : (long : Bool) (n : ℕ) → n < 31 → 1 ≡ tableDay long n .month
+-- so many days after 1 March: from there on, five months in a row have 153 days
+abbrev pub sinceMarch : ℕ → MonthDay
+sinceMarch k = inMonth ((5 * k + 2) / 153 + 3) k ((153 * ((5 * k + 2) / 153) + 2) / 5) ((153 * ((5 * k + 2) / 153) + 155) / 5)
+
+-- a function that has the table's values on a range of its places says what the table says there
+by-range : (long : Bool) (f : ℕ → MonthDay) (i n : ℕ) → tab f i n ≡ tab (tableDay long) i n → (k : ℕ) → i ≤ k → k < i + n → f k ≡ tableDay long k
+by-range long f i n e k l h = let z : i + (k - i) ≡ k = omega arith in ap f (sym z) ∙ same-from f (tableDay long) noDay i n e (k - i) (omega arith) ∙ ap (tableDay long) z
+
+pub january : (long : Bool) (n : ℕ) → n < 31 → inMonth 1 n 0 31 ≡ tableDay long n
 unfolding tableDay
-january true n h = same-below (λ (n : ℕ). 1) (monthIn true) 0 31 refl n h
-january false n h = same-below (λ (n : ℕ). 1) (monthIn false) 0 31 refl n h
+january true n h = by-range true (λ (n : ℕ). inMonth 1 n 0 31) 0 31 refl n (omega arith) (omega arith)
+january false n h = by-range false (λ (n : ℕ). inMonth 1 n 0 31) 0 31 refl n (omega arith) (omega arith)
 
-pub february : (long : Bool) (n : ℕ) → 31 ≤ n → n < daysBeforeMonth long 3 → 2 ≡ tableDay long n .month
+pub february : (long : Bool) (n : ℕ) → 31 ≤ n → n < daysBeforeMonth long 3 → inMonth 2 n 31 (daysBeforeMonth long 3) ≡ tableDay long n
 unfolding tableDay daysBeforeMonth
-february true n l h = let e : 31 + (n - 31) ≡ n = omega arith in same-from (λ (n : ℕ). 2) (monthIn true) 0 31 29 refl (n - 31) (omega arith) ∙ ap (monthIn true) e
-february false n l h = let e : 31 + (n - 31) ≡ n = omega arith in same-from (λ (n : ℕ). 2) (monthIn false) 0 31 28 refl (n - 31) (omega arith) ∙ ap (monthIn false) e
+february true n l h = by-range true (λ (n : ℕ). inMonth 2 n 31 60) 31 29 refl n l (omega arith)
+february false n l h = by-range false (λ (n : ℕ). inMonth 2 n 31 59) 31 28 refl n l (omega arith)
 
--- from March on, five months in a row have 153 days
-pub from-march : (long : Bool) (k : ℕ) → k < 306 → (5 * k + 2) / 153 + 3 ≡ tableDay long (daysBeforeMonth long 3 + k) .month
+pub from-march : (long : Bool) (n : ℕ) → daysBeforeMonth long 3 ≤ n → n - daysBeforeMonth long 3 < 306 → sinceMarch (n - daysBeforeMonth long 3) ≡ tableDay long n
 unfolding tableDay daysBeforeMonth
-from-march true k h = let e : 60 + k - 60 ≡ k = omega arith in ap (λ (x : ℕ). (5 * x + 2) / 153 + 3) (sym e) ∙ same-from (λ (n : ℕ). (5 * (n - 60) + 2) / 153 + 3) (monthIn true) 0 60 306 refl k h
-from-march false k h = let e : 59 + k - 59 ≡ k = omega arith in ap (λ (x : ℕ). (5 * x + 2) / 153 + 3) (sym e) ∙ same-from (λ (n : ℕ). (5 * (n - 59) + 2) / 153 + 3) (monthIn false) 0 59 306 refl k h
+from-march true n l h = by-range true (λ (n : ℕ). sinceMarch (n - 60)) 60 306 refl n l (omega arith)
+from-march false n l h = by-range false (λ (n : ℕ). sinceMarch (n - 59)) 59 306 refl n l (omega arith)
 
-pub next-january : (long : Bool) (k : ℕ) → 306 ≤ k → k < 313 → 1 ≡ tableDay long (daysBeforeMonth long 3 + k) .month
+pub next-january : (long : Bool) (n : ℕ) → daysBeforeMonth long 3 ≤ n → 306 ≤ n - daysBeforeMonth long 3 → n - daysBeforeMonth long 3 < 313
+    → inMonth 1 (n - daysBeforeMonth long 3) 306 337 ≡ tableDay long n
 unfolding tableDay daysBeforeMonth
-next-january true k l h = let e : 366 + (k - 306) ≡ 60 + k = omega arith in same-from (λ (n : ℕ). 1) (monthIn true) 0 366 7 refl (k - 306) (omega arith) ∙ ap (monthIn true) e
-next-january false k l h = let e : 365 + (k - 306) ≡ 59 + k = omega arith in same-from (λ (n : ℕ). 1) (monthIn false) 0 365 7 refl (k - 306) (omega arith) ∙ ap (monthIn false) e
+next-january true n m l h = by-range true (λ (n : ℕ). inMonth 1 (n - 60) 306 337) 366 7 refl n (omega arith) (omega arith)
+next-january false n m l h = by-range false (λ (n : ℕ). inMonth 1 (n - 59) 306 337) 365 7 refl n (omega arith) (omega arith)
 
 -- March begins on the 59th or 60th day after 1 January
 pub march-is : (long : Bool) → (59 ≤ daysBeforeMonth long 3) × (daysBeforeMonth long 3 ≤ 60)
@@ -141,44 +150,9 @@ unfolding daysBeforeMonth
 tables-end true = refl
 tables-end false = refl
 
--- ---- and its day in the month
-
-abbrev dayIn : Bool → ℕ → DayInMonth
-dayIn long n = dayInMonth (tableDay long n)
-
-abbrev none : DayInMonth
-none = record { day = 0; left = 0 }
-
--- the day so many days after 1 March
-abbrev pub marchDay : ℕ → DayInMonth
-marchDay k = dayBetween k ((153 * ((5 * k + 2) / 153) + 2) / 5) ((153 * ((5 * k + 2) / 153) + 155) / 5)
-
-pub january-day : (long : Bool) (n : ℕ) → n < 31 → dayBetween n 0 31 ≡ dayInMonth (tableDay long n)
-unfolding tableDay
-january-day true n h = same-below (λ (n : ℕ). dayBetween n 0 31) (dayIn true) none 31 refl n h
-january-day false n h = same-below (λ (n : ℕ). dayBetween n 0 31) (dayIn false) none 31 refl n h
-
-pub february-day : (long : Bool) (n march : ℕ) → march ≡ daysBeforeMonth long 3 → 31 ≤ n → n < march → dayBetween n 31 march ≡ dayInMonth (tableDay long n)
-unfolding tableDay daysBeforeMonth
-february-day true n march m l h =
-    let e : 31 + (n - 31) ≡ n = omega arith in
-    ap (λ (x : ℕ). dayBetween n 31 x) m ∙ ap (λ (x : ℕ). dayBetween x 31 60) (sym e) ∙ same-from (λ (n : ℕ). dayBetween n 31 60) (dayIn true) none 31 29 refl (n - 31) (omega arith) ∙ ap (dayIn true) e
-february-day false n march m l h =
-    let e : 31 + (n - 31) ≡ n = omega arith in
-    ap (λ (x : ℕ). dayBetween n 31 x) m ∙ ap (λ (x : ℕ). dayBetween x 31 59) (sym e) ∙ same-from (λ (n : ℕ). dayBetween n 31 59) (dayIn false) none 31 28 refl (n - 31) (omega arith) ∙ ap (dayIn false) e
-
-pub march-day : (long : Bool) (k : ℕ) → k < 306 → marchDay k ≡ dayInMonth (tableDay long (daysBeforeMonth long 3 + k))
-unfolding tableDay daysBeforeMonth
-march-day true k h = let e : 60 + k - 60 ≡ k = omega arith in ap marchDay (sym e) ∙ same-from (λ (n : ℕ). marchDay (n - 60)) (dayIn true) none 60 306 refl k h
-march-day false k h = let e : 59 + k - 59 ≡ k = omega arith in ap marchDay (sym e) ∙ same-from (λ (n : ℕ). marchDay (n - 59)) (dayIn false) none 59 306 refl k h
-
-pub next-january-day : (long : Bool) (k : ℕ) → 306 ≤ k → k < 313 → dayBetween k 306 337 ≡ dayInMonth (tableDay long (daysBeforeMonth long 3 + k))
-unfolding tableDay daysBeforeMonth
-next-january-day true k l h =
-    let e : 366 + (k - 306) ≡ 60 + k = omega arith in
-    let z : k ≡ 366 + (k - 306) - 60 = omega arith in
-    ap (λ (x : ℕ). dayBetween x 306 337) z ∙ same-from (λ (n : ℕ). dayBetween (n - 60) 306 337) (dayIn true) none 366 7 refl (k - 306) (omega arith) ∙ ap (dayIn true) e
-next-january-day false k l h =
-    let e : 365 + (k - 306) ≡ 59 + k = omega arith in
-    let z : k ≡ 365 + (k - 306) - 59 = omega arith in
-    ap (λ (x : ℕ). dayBetween x 306 337) z ∙ same-from (λ (n : ℕ). dayBetween (n - 59) 306 337) (dayIn false) none 365 7 refl (k - 306) (omega arith) ∙ ap (dayIn false) e
+-- its day in the month, and that from the month's end
+pub day-in-month : (month place from to : ℕ) → from ≤ place → dayBetween place from to ≡ dayInMonth (inMonth month place from to)
+day-in-month month place from to h = ap (λ (left : ℕ). told left) (omega arith)
+  where
+    told : ℕ → DayInMonth
+    told left = record { day = place - from + 1; left = left }

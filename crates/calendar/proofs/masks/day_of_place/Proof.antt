@@ -1,19 +1,13 @@
 -- `calendar::masks::day_of_place` meets its contract: what it reckons is what the calendar says at each place, by one computed test.
 -- Assumes nothing.
-use mathlib.Core.Bool.{Bool}
-use mathlib.Core.Path.{_≡_, _∙_, sym, ap}
-use Prim.Native.Nat.{ℕ, _+_, _-_, _≤_}
+use mathlib.Core.Path.{_∙_, sym, ap}
+use Prim.Native.Nat.{ℕ, _+_, _-_, _*_, _/_}
 use native.Mathlib.Omega.{arith}
 use borrow.Author.Needs.{needs}
-use Rattle.calendar.specs.Calendar.{daysBeforeMonth, MonthDay, dayInMonth, tableDay}
-use Rattle.calendar.proofs.Months.{january-day, february-day, march-day, next-january-day, march-is, tables-end, past-table}
+use Rattle.calendar.specs.Calendar.{daysBeforeMonth, dayInMonth}
+use Rattle.calendar.proofs.Months.{january, february, from-march, next-january, march-is, tables-end, past-table, day-in-month}
 use Rattle.calendar.proofs.masks.day_of_place.Statement.{statement}
 use Rattle.calendar.proofs.masks.day_of_place.Tie as tie
-
--- so many days after 1 March
-past-march : (long : Bool) (march place : ℕ) → march ≡ daysBeforeMonth long 3 → march ≤ place
-    → dayInMonth (tableDay long (daysBeforeMonth long 3 + (place - march))) ≡ dayInMonth (tableDay long place)
-past-march long march place e l = let z : daysBeforeMonth long 3 + (place - march) ≡ place = omega arith in ap (λ (n : ℕ). dayInMonth (tableDay long n)) z
 
 days-before-month-requires : tie.Need-days-before-month-requires
 days-before-month-requires c κs = search needs
@@ -25,7 +19,9 @@ day-between-requires : tie.Need-day-between-requires
 day-between-requires c κs = search needs
 
 returns : tie.Need-returns
-returns c = let a = c .before .before .before .args in c .day-between .ensures ∙ january-day (a .long) (a .place) (c .before .if1 .taken)
+returns c =
+    let a = c .before .before .before .args in
+    c .day-between .ensures ∙ day-in-month 1 (a .place) 0 31 (omega arith) ∙ ap dayInMonth (january (a .long) (a .place) (c .before .if1 .taken))
 
 day-between-requires-2 : tie.Need-day-between-requires-2
 day-between-requires-2 c κs =
@@ -36,7 +32,8 @@ day-between-requires-2 c κs =
 returns-2 : tie.Need-returns-2
 returns-2 c =
     let a = c .before .before .before .before .args in
-    c .day-between2 .ensures ∙ february-day (a .long) (a .place) (c .before .before .before .days-before-month .result) (c .before .before .before .days-before-month .ensures) (omega (arith, c .before .before .if1 .left)) (c .before .if2 .taken)
+    let e = c .before .before .before .days-before-month .ensures in
+    c .day-between2 .ensures ∙ rw e (day-in-month 2 (a .place) 31 (daysBeforeMonth (a .long) 3) (omega (arith, c .before .before .if1 .left)) ∙ ap dayInMonth (february (a .long) (a .place) (omega (arith, c .before .before .if1 .left)) (omega (arith, e, c .before .if2 .taken))))
 
 mul-month : tie.Need-mul-month
 mul-month c = search needs
@@ -62,8 +59,10 @@ day-between-requires-3 c κs = (omega arith, omega arith, omega arith)
 returns-3 : tie.Need-returns-3
 returns-3 c =
     let a = c .before .before .before .before .before .args in
-    let march = c .before .before .before .before .days-before-month .result in
-    c .day-between3 .ensures ∙ march-day (a .long) (a .place - march) (c .before .if3 .taken) ∙ past-march (a .long) march (a .place) (c .before .before .before .before .days-before-month .ensures) (omega (arith, c .before .before .if2 .left))
+    let e = c .before .before .before .before .days-before-month .ensures in
+    let k : ℕ = a .place - daysBeforeMonth (a .long) 3 in
+    c .day-between3 .ensures
+    ∙ rw e (day-in-month ((5 * k + 2) / 153 + 3) k _ _ (omega arith) ∙ ap dayInMonth (from-march (a .long) (a .place) (omega (arith, e, c .before .before .if2 .left)) (omega (arith, e, c .before .if3 .taken))))
 
 day-between-requires-4 : tie.Need-day-between-requires-4
 day-between-requires-4 c κs = search needs
@@ -71,8 +70,9 @@ day-between-requires-4 c κs = search needs
 returns-4 : tie.Need-returns-4
 returns-4 c =
     let a = c .before .before .before .before .before .before .args in
-    let march = c .before .before .before .before .before .days-before-month .result in
-    c .day-between4 .ensures ∙ next-january-day (a .long) (a .place - march) (omega (arith, c .before .before .if3 .left)) (c .before .if4 .taken) ∙ past-march (a .long) march (a .place) (c .before .before .before .before .before .days-before-month .ensures) (omega (arith, c .before .before .before .if2 .left))
+    let e = c .before .before .before .before .before .days-before-month .ensures in
+    c .day-between4 .ensures
+    ∙ rw e (day-in-month 1 (a .place - daysBeforeMonth (a .long) 3) 306 337 (omega (arith, e, c .before .before .if3 .left)) ∙ ap dayInMonth (next-january (a .long) (a .place) (omega (arith, e, c .before .before .before .if2 .left)) (omega (arith, e, c .before .before .if3 .left)) (omega (arith, e, c .before .if4 .taken))))
 
 returns-5 : tie.Need-returns-5
 returns-5 c =
