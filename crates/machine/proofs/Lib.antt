@@ -1,3 +1,4 @@
+pub mod AnswersComputed
 pub mod Laws
 pub mod Cases
 pub mod Steps
@@ -10,4 +11,4 @@ pub mod Chains
 pub mod Finish
 pub mod Enough
 pub mod Theorems
-pub mod Example
+pub mod DailySound

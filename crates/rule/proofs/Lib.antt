@@ -1,3 +1,4 @@
+pub mod AnswersComputed
 pub mod CheckLaws
 pub mod Chosen
 pub mod Cursors
@@ -9,7 +10,6 @@ pub mod FillKeeps
 pub mod FillLaws
 pub mod GivenLaws
 pub mod GoodRecords
-pub mod LastWeek
 pub mod Listed
 pub mod Members
 pub mod Moved

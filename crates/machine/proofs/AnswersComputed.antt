@@ -1,13 +1,12 @@
--- Worked cases: DAILY;COUNT=3 from 2024-02-28 05:00, in one call and cut into four; UNTIL; NoTick; refusals; and the daily calendar is sound.
+-- Worked cases: DAILY;COUNT=3 from 2024-02-28 05:00, in one call and cut into four; UNTIL; NoTick; refusals. Modules are
+-- checked by name, so a wrong definition is refused here first, by an answer that differs.
 -- Assumes nothing.
-use Prim.Native.Nat.{ℕ, _+_, _-_, _*_, _<_}
+use Prim.Native.Nat.{ℕ, _+_, _-_, _*_}
 use mathlib.Core.Path.{_≡_, refl}
 use mathlib.Core.Bool.{Bool, true, false}
 use mathlib.Core.List.{List, [], _∷_}
-use lib.ListN.{length, replicate}
+use lib.ListN.{replicate}
 use lib.Dec.{ltb}
-use native.Mathlib.Omega.{arith}
-use borrow.Author.Tests.{ltb-true, lt-ltb}
 use Rattle.machine.specs.declared.Cause.{Cause}
 use Rattle.machine.specs.declared.State.{State}
 use Rattle.machine.specs.declared.Fault.{Fault}
@@ -19,12 +18,9 @@ use Rattle.machine.specs.Cursors.{fresh, wellFormed}
 use Rattle.machine.specs.Run.{counted, atCandidate, moveOn, Call}
 use Rattle.machine.specs.Compute.{walk, after, runs, run}
 use Rattle.machine.specs.Calls.{refuse, call, Answered, beside, answered, chain}
-use Rattle.machine.specs.Sound.{Sound}
-use Rattle.machine.specs.Promises.{Lists}
-use Rattle.machine.proofs.Theorems.{fresh-well-formed, chain-lists, ample, sound-by-next}
 
 -- The days from 2024-02-28 to the end of 9999, each with one kept candidate, at five. Inside, seconds count from 0001-01-01; an instant is shown.
-unfoldable daily : Bound → Bound → Given ℕ
+unfoldable pub daily : Bound → Bound → Given ℕ
 daily until count = record {
   kept = λ k. (63844675200 + k * 86400 + 18000) ∷ [];
   inRange = λ k. ltb k 2913116;
@@ -150,27 +146,3 @@ too-many = refl
 too-early : call true (daily absent absent) (record { state = State.Running; k = 0; place = 0; number = 1 }) one .stop ≡ Stop.Refused Fault.Cursor
 unfolding call wellFormed daily one
 too-early = refl
-
--- the calendar of the example is sound
-sound : (until count : Bound) → Sound (daily until count)
-unfolding daily
-sound until count = sound-by-next (daily until count) (record {
-  first = refl;
-  closed = λ k r. lt-ltb k 2913116 (omega (arith, ltb-true (k + 1) 2913116 r));
-  rises = λ k r. (omega arith, omega arith);
-  step = λ k r. omega arith;
-}) (λ k. refl)
-
--- so calls list what the theorem says
-daily-lists : (until count : Bound) (calls : List (Call ℕ))
-    → Lists (daily until count) (chain (call true (daily until count)) (fresh (daily until count)) calls)
-daily-lists until count calls = chain-lists (daily until count) (λ i. sound until count) true refl calls .1
-
--- and one ample call comes to the end
-daily-ends : (until count : Bound) (x : Call ℕ) → 315537897600 < length (x .buffer) → 2913115 < x .budget
-    → run (daily until count) (fresh (daily until count)) x .stop ≡ Stop.Ended
-unfolding daily
-daily-ends until count x =
-    ample (daily until count) (λ i. sound until count) 2913115 315537897600
-    (record { number = λ k r. omega (arith, ltb-true k 2913116 r); second = λ k r. omega (arith, ltb-true k 2913116 r) })
-    (fresh (daily until count)) (fresh-well-formed (daily until count) (λ i. sound until count)) x
