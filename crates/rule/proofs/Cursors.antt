@@ -15,7 +15,8 @@ use Rattle.machine.specs.Cursors.{WellFormed, next}
 use Rattle.machine.specs.Run.{Call}
 use Rattle.machine.specs.Calls.{chain}
 use Rattle.machine.specs.Claims.{Lawful}
-use Rattle.machine.proofs.Theorems.{answers, accepted, fresh-well-formed, stays-well-formed, moves-are-steps, chain-lists}
+use Rattle.machine.proofs.Theorems.{answers, accepted, fresh-well-formed, stays-well-formed, chain-lists}
+use Rattle.machine.proofs.Theorems as machine
 use Rattle.rule.specs.declared.rrule.Count.{Count}
 use Rattle.rule.specs.declared.rrule.Rule.{Rule}
 use Rattle.rule.specs.Instants.{second, instant, rangeEnd}
@@ -79,10 +80,10 @@ one-step : (k : ℕ) (b : Bool) → Step k (if b then To (k + 1) else Range)
 one-step k true k′ e = let f : k + 1 ≡ k′ = cc in sym f
 one-step k false k′ e = absurd (let z : _≡_ {A = ℕ} 0 1 = cc in omega arith)
 
-pub moves-are-steps-of : MovesAreSteps
+pub moves-are-steps : MovesAreSteps
 unfolding periods
-moves-are-steps-of r coarse c calls =
-    moves-are-steps (periods r) (λ k k′ e. one-step k (inRange r (k + 1)) k′ (sym (moves-by-one r k coarse) ∙ e)) c calls
+moves-are-steps r coarse c calls =
+    machine.moves-are-steps (periods r) (λ k k′ e. one-step k (inRange r (k + 1)) k′ (sym (moves-by-one r k coarse) ∙ e)) c calls
 
 pub two-forms : TwoForms
 two-forms r c x o = answers (periods r) c x o
