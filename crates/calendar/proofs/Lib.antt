@@ -1,3 +1,4 @@
+pub mod AsksNothing
 pub mod Dates
 pub mod Determines
 pub mod Months
