@@ -1,5 +1,6 @@
 -- One answer: of each public function, two answers that its promise allows are one. `Post` is the promise as the source states it.
 -- Assumes nothing.
+use Rattle.calendar.proofs.AsksNothing.{AsksNothing, nothing-asked}
 use Rattle.calendar.proofs.Determines.{Determines, one-answer}
 use Rattle.basics.proofs.faults.fault_number.Kinds as fault-number-kinds
 use Rattle.basics.proofs.faults.fault_number.Reads as fault-number
@@ -31,3 +32,22 @@ frequency-number-has-one κs a x y e f = one-answer
 
 pub is-empty-has-one : Determines 1 is-empty-kinds.ps is-empty-kinds.r is-empty.Post
 is-empty-has-one κs a x y e f = one-answer
+
+-- and none asks anything of its callers
+pub fault-number-asks-nothing : AsksNothing 0 fault-number-kinds.ps fault-number.requires
+fault-number-asks-nothing κs a = nothing-asked
+
+pub refused-asks-nothing : AsksNothing 0 refused-kinds.ps refused.requires
+refused-asks-nothing κs a = nothing-asked
+
+pub refusal-number-asks-nothing : AsksNothing 0 refusal-number-kinds.ps refusal-number.requires
+refusal-number-asks-nothing κs a = nothing-asked
+
+pub fresh-asks-nothing : AsksNothing 0 fresh-kinds.ps fresh.requires
+fresh-asks-nothing κs a = nothing-asked
+
+pub frequency-number-asks-nothing : AsksNothing 0 frequency-number-kinds.ps frequency-number.requires
+frequency-number-asks-nothing κs a = nothing-asked
+
+pub is-empty-asks-nothing : AsksNothing 1 is-empty-kinds.ps is-empty.requires
+is-empty-asks-nothing κs a = nothing-asked

@@ -1,5 +1,6 @@
 -- One answer: of each public function, two answers that its promise allows are one. `Post` is the promise as the source states it.
 -- Assumes nothing.
+use Rattle.calendar.proofs.AsksNothing.{AsksNothing, nothing-asked}
 use Rattle.calendar.proofs.Determines.{Determines, one-answer}
 use Rattle.calendar.proofs.masks.month_at.Kinds as month-at-kinds
 use Rattle.calendar.proofs.masks.month_at.Reads as month-at
@@ -76,3 +77,43 @@ day-of-date-has-one κs a x y e f = one-answer
 
 pub weekday-of-day-has-one : Determines 0 weekday-of-day-kinds.ps weekday-of-day-kinds.r weekday-of-day.Post
 weekday-of-day-has-one κs a x y e f = one-answer
+
+-- and none asks anything of its callers
+pub month-at-asks-nothing : AsksNothing 0 month-at-kinds.ps month-at.requires
+month-at-asks-nothing κs a = nothing-asked
+
+pub month-day-at-asks-nothing : AsksNothing 0 month-day-at-kinds.ps month-day-at.requires
+month-day-at-asks-nothing κs a = nothing-asked
+
+pub month-day-from-end-at-asks-nothing : AsksNothing 0 month-day-from-end-at-kinds.ps month-day-from-end-at.requires
+month-day-from-end-at-asks-nothing κs a = nothing-asked
+
+pub days-before-month-asks-nothing : AsksNothing 0 days-before-month-kinds.ps days-before-month.requires
+days-before-month-asks-nothing κs a = nothing-asked
+
+pub month-length-asks-nothing : AsksNothing 0 month-length-kinds.ps month-length.requires
+month-length-asks-nothing κs a = nothing-asked
+
+pub date-from-ordinal-asks-nothing : AsksNothing 0 date-from-ordinal-kinds.ps date-from-ordinal.requires
+date-from-ordinal-asks-nothing κs a = nothing-asked
+
+pub is-leap-year-asks-nothing : AsksNothing 0 is-leap-year-kinds.ps is-leap-year.requires
+is-leap-year-asks-nothing κs a = nothing-asked
+
+pub get-year-len-asks-nothing : AsksNothing 0 get-year-len-kinds.ps get-year-len.requires
+get-year-len-asks-nothing κs a = nothing-asked
+
+pub days-before-year-asks-nothing : AsksNothing 0 days-before-year-kinds.ps days-before-year.requires
+days-before-year-asks-nothing κs a = nothing-asked
+
+pub weekday-of-new-year-asks-nothing : AsksNothing 0 weekday-of-new-year-kinds.ps weekday-of-new-year.requires
+weekday-of-new-year-asks-nothing κs a = nothing-asked
+
+pub year-of-day-asks-nothing : AsksNothing 0 year-of-day-kinds.ps year-of-day.requires
+year-of-day-asks-nothing κs a = nothing-asked
+
+pub day-of-date-asks-nothing : AsksNothing 0 day-of-date-kinds.ps day-of-date.requires
+day-of-date-asks-nothing κs a = nothing-asked
+
+pub weekday-of-day-asks-nothing : AsksNothing 0 weekday-of-day-kinds.ps weekday-of-day.requires
+weekday-of-day-asks-nothing κs a = nothing-asked
