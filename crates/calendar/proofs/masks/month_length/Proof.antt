@@ -8,7 +8,7 @@ use Rattle.calendar.proofs.masks.month_length.Statement.{statement}
 use Rattle.calendar.proofs.masks.month_length.Tie as tie
 
 returns : tie.Need-returns
-returns c = sym (no-month (c .before .args .long) (c .before .args .month) (search needs))
+returns c = sym (no-month (c .before .args .long) (c .before .args .month) (omega arith))
 
 add-days-before-month : tie.Need-add-days-before-month
 add-days-before-month c = search needs
