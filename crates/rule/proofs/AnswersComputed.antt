@@ -11,12 +11,14 @@ use Rattle.machine.specs.Compute.{walk, after, runs}
 use Rattle.rule.specs.declared.rrule.Refusal.{Refusal}
 use Rattle.rule.specs.declared.rrule.Slot.{Slot}
 use Rattle.rule.specs.declared.rrule.Verdict.{Verdict}
+use Rattle.rule.specs.Instants.{second}
 use Rattle.rule.specs.Lists.{setOf}
 use Rattle.rule.specs.Raw.{Raw}
 use Rattle.rule.specs.Refusals.{verdict}
 use Rattle.rule.specs.Filling.{given, fill}
 use Rattle.rule.specs.Records.{yielded}
-use Rattle.rule.specs.Charts.{BYMONTH, BYDAY, ruleOf, play, playOf, lastWeek}
+use Rattle.rule.specs.Candidates.{candidates}
+use Rattle.rule.specs.Charts.{BYMONTH, BYDAY, BYHOUR, ruleOf, play, playOf, lastWeek}
 
 -- the last week of a year is counted in the weeks of its own year, whole answer and all
 pub last-week-is : playOf lastWeek ≡ lastWeek .played
@@ -46,3 +48,18 @@ nth-in-a-week = refl
 month-as-given : fill (given (ruleOf 0 1704067200 (BYMONTH (pos 3 ∷ [])))) .bymonth ≡ setOf 12 (Slot.At 2 ∷ [])
 unfolding fill given ruleOf
 month-as-given = refl
+
+-- HOURLY from 2024-01-01 keeps BYHOUR empty
+no-hour-for-hourly : fill (given (ruleOf 4 1704067200 [])) .byhour ≡ setOf 24 []
+unfolding fill given ruleOf
+no-hour-for-hourly = refl
+
+-- DAILY;BYHOUR=24,8 is out of range, and doesn't rise either
+out-before-order : verdict (ruleOf 3 1704067200 (BYHOUR (pos 24 ∷ pos 8 ∷ []))) ≡ Verdict.Refused Refusal.EntryOut
+unfolding verdict ruleOf
+out-before-order = refl
+
+-- SECONDLY from 2024-01-01: the first second of the day is the candidate of its own period
+first-of-the-day : candidates (fill (given (ruleOf 6 1704067200 []))) 0 ≡ second 1704067200 ∷ []
+unfolding candidates fill given ruleOf leap newYear daysBeforeMonth
+first-of-the-day = refl
