@@ -1,6 +1,6 @@
 -- One turn of the run's loop: what is opened is the rule's own period, and what is walked are its kept candidates.
 -- Assumes nothing.
-use Prim.Native.Nat.{ℕ, zero, suc, _+_, _-_, _*_, _≤_, _<_}
+use Prim.Native.Nat.{ℕ, zero, suc, _+_, _-_, _*_, _^_, _≤_, _<_}
 use mathlib.Core.Path.{_≡_, refl, sym, ap, _∙_, subst}
 use mathlib.Core.Bool.{Bool, true, false, not, _&&_}
 use mathlib.Core.List.{List}
@@ -83,6 +83,7 @@ pub record At (r : Rule) (m : ℕ) (h₀ : Held) (b₀ buffer : List ℕ) (count
   pub handed : held .handed ≤ length buffer
   pub number : held .number ≤ 253402300800 + held .handed
   pub moves : held .moves ≤ m
+  pub m-fits : m < 2 ^ 32
   pub run : compute.runs (periods r) m (nowOf State.Running h₀ b₀) ≡ compute.runs (periods r) (m - held .moves) (nowOf State.Running held buffer)
 
 both-true : (x y : Bool) → (x && y) ≡ true → (x ≡ true) × (y ≡ true)
@@ -357,7 +358,7 @@ module _ (walk-by-bounds : (g : Given ℕ) (b : Bounds) → g .start ≡ b .star
             moving v x = ap (move r) (stays .k-same ∙ a .k-is) ∙ x
 
             pub moves-one : (j : ℕ) → movedTo j (w .held) .moves ≡ held .moves + 1
-            moves-one j = ap (λ (x : ℕ). x + 1) (stays .made-same)
+            moves-one j = omega (arith, spare, stays .made-same, a .m-fits)
 
             pub moves-left : held .moves < m
             moves-left = omega (arith, spare, stays .made-same)
@@ -385,7 +386,8 @@ module _ (walk-by-bounds : (g : Given ℕ) (b : Bounds) → g .start ≡ b .star
               handed = omega (arith, stays .handed-high, stays .room-same);
               number = omega (arith, a .number, stays .number-is);
               moves = omega (arith, spare);
-              run = a .run ∙ then-moves (periods r) (nowOf State.Running held buffer) (m - held .moves) m w buffer′ budget within (walk-is w buffer′ e) onward (next .k) (moving (To (next .k)) x);
+              m-fits = a .m-fits;
+              run = a .run ∙ then-moves (periods r) (nowOf State.Running held buffer) (m - held .moves) m w buffer′ budget within (walk-is w buffer′ e) onward (a .m-fits) (next .k) (moving (To (next .k)) x);
             })
 
 -- ---- before the first turn, and where the year changes
@@ -421,6 +423,7 @@ rebuilt r m h₀ b₀ buffer counter held days places info info′ y a e = recor
   handed = a .handed;
   number = a .number;
   moves = a .moves;
+  m-fits = a .m-fits;
   run = a .run;
 }
 
@@ -473,10 +476,10 @@ first-span r plan first k span p f s = s ∙ ap (λ (x : Plan). daysIn (x .freq)
 
 -- what holds before the first turn
 pub begins-at : (r : Rule) → yielded r ≡ true → (m : ℕ) (c : Cursor) (held : Held) (b₀ : List ℕ) (first : Counter) (days places : List ℕ) (info : IterInfo) (y : ℕ)
-    → c .state ≡ State.Running → poised (periods r) c ≡ true → held ≡ heldOf c → first ≡ counterAt r (c .k) → length days ≡ 373 → length places ≡ 732 → info ≡ ruleInfo r y
+    → c .state ≡ State.Running → poised (periods r) c ≡ true → held ≡ heldOf c → first ≡ counterAt r (c .k) → length days ≡ 373 → length places ≡ 732 → info ≡ ruleInfo r y → m < 2 ^ 32
     → At r m held b₀ b₀ first held days places info
 unfolding periods
-begins-at r h m c held b₀ first days places info y st q e f d l i =
+begins-at r h m c held b₀ first days places info y st q e f d l i z =
     let t : Poised (periods r) c = poised-is (periods r) c q in
     let k : first .k ≡ c .k = ap (λ (x : Counter). x .k) f ∙ k-is r (c .k) in
     record {
@@ -492,6 +495,7 @@ begins-at r h m c held b₀ first days places info y st q e f d l i =
       handed = subst (λ (x : Held). x .handed ≤ length b₀) (sym e) (omega arith);
       number = subst (λ (x : Held). x .number ≤ 253402300800 + x .handed) (sym e) (let z = number-fits r h c (λ x. t) st in omega arith);
       moves = subst (λ (x : Held). x .moves ≤ m) (sym e) (omega arith);
+      m-fits = z;
       run = subst (λ (x : Held). compute.runs (periods r) m (nowOf State.Running x b₀) ≡ compute.runs (periods r) (m - x .moves) (nowOf State.Running x b₀)) (sym e)
           (ap (λ (n : ℕ). compute.runs (periods r) n (nowOf State.Running (heldOf c) b₀)) (omega arith));
     }

@@ -1,6 +1,6 @@
 -- What a walk leaves as it was, and what follows it.
 -- Assumes nothing.
-use Prim.Native.Nat.{ℕ, zero, suc, _+_, _-_, _*_, _≤_, _<_}
+use Prim.Native.Nat.{ℕ, zero, suc, _+_, _-_, _*_, _^_, min, _≤_, _<_}
 use mathlib.Core.Path.{_≡_, refl, sym, ap, _∙_, subst}
 use mathlib.Core.Bool.{Bool, true, false, _||_}
 use mathlib.Core.List.{List, [], _∷_}
@@ -26,10 +26,11 @@ use Rattle.walks.specs.declared.rrule_iter.Held.{Held}
 use Rattle.walks.specs.declared.rrule_iter.Walked.{Walked}
 use Rattle.walks.specs.declared.rrule_iter.Bounds.{Bounds}
 use Rattle.walks.specs.declared.rrule_iter.Frame.{Frame}
-use Rattle.walks.specs.Walks.{givenBy, nowOf, walkedBy, tabled, walkFrom, daysWalk, placesWalk, Ready}
+use Rattle.walks.specs.Walks.{givenBy, nowOf, walkedBy, tabled, secondAt, walkFrom, daysWalk, placesWalk, Framed, Ready}
 use Rattle.rule.proofs.GivenLaws.{neither}
 use Rattle.walks.specs.Passing.{passedDays, Timely}
 use Rattle.walks.proofs.Passing.{passed-holds, passed-walks}
+use Rattle.walks.proofs.Walkable.{is-walkable, days-walked, places-walked}
 use Rattle.positions.specs.Places.{keptPlaces, over}
 use Rattle.positions.proofs.PlaceLaws.{places-below}
 use Rattle.listing.specs.Opening.{frameOf, keptCount, chosenOver, keptBy, chosenBy, secondKept}
@@ -189,10 +190,13 @@ module _ (g : Given ℕ) (s : Now ℕ) (left m : ℕ) (w : Walked) (buffer : Lis
       go (yes e) = absurd (onward .unspent e)
       go (no e) = omega arith
 
-  pub then-moves : (k : ℕ) → g .move (w .held .k) ≡ To k → compute.runs g left s ≡ compute.runs g (m - (w .held .moves + 1)) (nowOf State.Running (movedTo k (w .held)) buffer)
-  then-moves k e =
+  pub then-moves : m < 2 ^ 32 → (k : ℕ) → g .move (w .held .k) ≡ To k
+      → compute.runs g left s ≡ compute.runs g (m - movedTo k (w .held) .moves) (nowOf State.Running (movedTo k (w .held)) buffer)
+  then-moves small k e =
+      let counted : w .held .moves + 1 ≡ min (w .held .moves + 1) 4294967295 = omega (arith, one-left) in
       ap (λ (n : ℕ). compute.runs g n s) one-left
       ∙ runs-to g s (w .held .k) (w .held .place) (w .held .number) (w .held .moves) (w .held .handed) buffer came (onward .free) (m - (w .held .moves + 1)) k e
+      ∙ ap (λ (n : ℕ). compute.runs g (m - n) (running k 0 (w .held .number) n (w .held .handed) buffer)) counted
 
   pub then-no-tick : g .move (w .held .k) ≡ NoTick → answered (compute.runs g left s) ≡ beside (answerOf Stop.Ended (State.Ended Cause.NoTick) (w .held)) buffer
   then-no-tick e =
@@ -215,18 +219,19 @@ drop-tabled f (suc n) i (suc p) h =
     drop-tabled f n (i + 1) p (omega arith) ∙ rw (a, b)
 
 -- ---- the walk over a period is that over its places, or that over its days and times
-module _ (positioned : Bool) (f : Frame) (b : Bounds) (h : Held) (kept : ℕ) (days lists places buffer : List ℕ) where
-  pub by-places : positioned ≡ true
+module _ (positioned : Bool) (f : Frame) (b : Bounds) (h : Held) (kept : ℕ) (days lists places buffer : List ℕ)
+    (framed : Framed f) (ready : Ready b h buffer) where
+  pub by-places : positioned ≡ true → kept ≤ 732
       → placesWalk f b h kept places days lists buffer
       ≡ compute.walk (givenBy b) (tabled (secondKept positioned f days lists places) (h .place) (kept - h .place)) (nowOf State.Running h buffer)
   unfolding walkFrom secondKept
-  by-places e = rw e
+  by-places e l = places-walked f b h buffer kept places days lists l (is-walkable f b h buffer framed ready) ∙ rw e
 
   pub by-days : positioned ≡ false → kept ≡ f .days * f .times
       → daysWalk f b h days lists buffer
       ≡ compute.walk (givenBy b) (tabled (secondKept positioned f days lists places) (h .place) (kept - h .place)) (nowOf State.Running h buffer)
   unfolding walkFrom secondKept
-  by-days e q = rw (e, q)
+  by-days e q = days-walked f b h buffer days lists (is-walkable f b h buffer framed ready) ∙ rw (e, q)
 
 -- a call is as ready after days were passed
 pub ready-passed : (full : Bool) (f : Frame) (b : Bounds) (h : Held) (days buffer : List ℕ) (r : Held) → r ≡ passedDays full f b h days → Ready b h buffer → Ready b r buffer
@@ -235,11 +240,13 @@ ready-passed full f b h days buffer r e y =
 
 -- and where days were passed, the walk is the same
 pub passed-same : (f : Frame) (b : Bounds) (h : Held) (days lists buffer : List ℕ) (r : Held)
-    → Timely f lists → r ≡ passedDays (ltb 0 (h .number) || eqb (h .handed) (length buffer)) f b h days
+    → Framed f → Timely f lists → Ready b h buffer → r ≡ passedDays (ltb 0 (h .number) || eqb (h .handed) (length buffer)) f b h days
     → daysWalk f b r days lists buffer ≡ daysWalk f b h days lists buffer
-passed-same f b h days lists buffer r z e =
-    ap (λ (x : Held). daysWalk f b x days lists buffer) e
+passed-same f b h days lists buffer r v z y e =
+    days-walked f b r buffer days lists (is-walkable f b r buffer v (ready-passed _ f b h days buffer r e y))
+    ∙ ap (λ (x : Held). walkFrom b (secondAt f days lists) (f .days * f .times) x buffer) e
     ∙ sym (passed-walks (ltb 0 (h .number) || eqb (h .handed) (length buffer)) f b h days lists buffer (λ q. eqb-false _ _ (neither (ltb 0 (h .number)) (eqb (h .handed) (length buffer)) q .1)) z)
+    ∙ sym (days-walked f b h buffer days lists (is-walkable f b h buffer v y))
 
 -- without positions all candidates are kept, and no place is written
 module _ (positioned : Bool) (e : positioned ≡ false) (bysetpos : List Bool) (f : Frame) where

@@ -1,6 +1,6 @@
 -- What becomes of a call after the walk over a period.
 -- Assumes nothing.
-use Prim.Native.Nat.{ℕ, _+_}
+use Prim.Native.Nat.{ℕ, _+_, min}
 use mathlib.Core.Bool.{Bool, true, false}
 use lib.Dec.{eqb}
 use Rattle.machine.specs.declared.Cause.{Cause}
@@ -13,7 +13,8 @@ use Rattle.walks.specs.declared.rrule_iter.Held.{Held}
 use Rattle.walks.specs.declared.rrule_iter.Walked.{Walked}
 use Rattle.settling.specs.declared.rrule_iter.Settled.{Settled}
 
--- what a call holds as it begins; the answer that it gives of what it holds; and what it holds after a move
+-- What a call holds as it begins; the answer that it gives of what it holds; and what it holds after a move, which is counted up to the largest
+-- count that a u32 has.
 abbrev pub heldOf : Cursor → Held
 heldOf c = record { k = c .k; place = c .place; number = c .number; moves = 0; handed = 0 }
 
@@ -26,7 +27,7 @@ answerOf stop state h = record {
 }
 
 abbrev pub movedTo : ℕ → Held → Held
-movedTo k h = record { k = k; place = 0; number = h .number; moves = h .moves + 1; handed = h .handed }
+movedTo k h = record { k = k; place = 0; number = h .number; moves = min (h .moves + 1) 4294967295; handed = h .handed }
 
 -- no candidate remains: stop with More where the buffer is full, with Limited where m moves are made
 abbrev pub settledThrough : (full spent : Bool) → Held → Settled

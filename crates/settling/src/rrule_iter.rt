@@ -8,7 +8,7 @@ use walks::rrule_iter::Held;
 use walks::rrule_iter::Walked;
 use walks::rrule_iter::Why;
 ghost use mathlib.Core.Path.{_≡_};
-ghost use Prim.Native.Nat.{_<_};
+ghost use Prim.Native.Nat.{_+_, min};
 ghost use Rattle.machine.specs.declared.Stop.{Stop};
 ghost use Rattle.machine.specs.declared.State.{State};
 ghost use Rattle.settling.specs.Settling.{answerOf, heldOf, movedTo, settled};
@@ -79,16 +79,25 @@ pub fn held_at(cursor: Cursor) -> Held
     }
 }
 
+// One move more; the largest count that there is stays.
+fn one_more(moves: u32) -> u32
+    ensures { λ r. ⌜ r ≡ min (moves + 1) 4294967295 ⌝ }
+{
+    if 4294967294 <= moves {
+        return 4294967295;
+    }
+    moves + 1
+}
+
 // A move sets the place to zero, and is counted.
 pub fn moved_to(k: u64, held: Held) -> Held
-    requires { ⌜ held .moves < 4294967295 ⌝ }
     ensures { λ r. ⌜ r ≡ movedTo k held ⌝ }
 {
     Held {
         k,
         place: 0,
         number: held.number,
-        moves: held.moves + 1,
+        moves: one_more(held.moves),
         handed: held.handed,
     }
 }

@@ -15,7 +15,7 @@ use Rattle.walks.specs.declared.rrule_iter.Why.{Why}
 use Rattle.walks.specs.declared.rrule_iter.Held.{Held}
 use Rattle.walks.specs.declared.rrule_iter.Bounds.{Bounds}
 use Rattle.walks.specs.declared.rrule_iter.Frame.{Frame}
-use Rattle.walks.specs.Walks.{givenBy, walkedBy, secondOn, secondAt, secondChosen, tabled, walkFrom, daysWalk, placesWalk}
+use Rattle.walks.specs.Walks.{isFramed, isReady, givenBy, walkedBy, secondOn, secondAt, secondChosen, tabled, walkFrom, daysWalk, placesWalk}
 use Rattle.walks.specs.Passing.{passable, passedDays}
 
 -- 1970-01-01 and 1970-01-03, at nine and at ten
@@ -37,38 +37,49 @@ from t until count = record { start = 62135596800 + t; until = until; count = co
 -- all four, where there is room
 through : daysWalk frame (from 32400 Until.Absent Count.Absent) (at 0 0 0) days lists (7 ∷ 7 ∷ 7 ∷ 7 ∷ 7 ∷ [])
     ≡ walkedBy (record { why = Why.Through; held = at 4 4 4 }) (32400 ∷ 36000 ∷ 205200 ∷ 208800 ∷ 7 ∷ [])
-unfolding walkFrom walk givenBy tabled secondAt secondOn timeAt atCandidate counted walkedBy frame days lists at from
+unfolding isFramed isReady walkFrom walk givenBy tabled secondAt secondOn timeAt atCandidate counted walkedBy frame days lists at from
 through = refl
 
 -- the first is before the start, and the buffer is full with two
 full : daysWalk frame (from 32401 Until.Absent Count.Absent) (at 0 0 0) days lists (7 ∷ 7 ∷ [])
     ≡ walkedBy (record { why = Why.Full; held = at 3 2 2 }) (36000 ∷ 205200 ∷ [])
-unfolding walkFrom walk givenBy tabled secondAt secondOn timeAt atCandidate counted walkedBy frame days lists at from
+unfolding isFramed isReady walkFrom walk givenBy tabled secondAt secondOn timeAt atCandidate counted walkedBy frame days lists at from
 full = refl
 
 -- UNTIL's own instant is handed out, and the next ends the walk
 until : daysWalk frame (from 32400 (Until.At (62135596800 + 205200)) Count.Absent) (at 1 1 0) days lists (7 ∷ 7 ∷ 7 ∷ [])
     ≡ walkedBy (record { why = Why.Until; held = at 3 3 2 }) (36000 ∷ 205200 ∷ 7 ∷ [])
-unfolding walkFrom walk givenBy tabled secondAt secondOn timeAt atCandidate counted walkedBy frame days lists at from
+unfolding isFramed isReady walkFrom walk givenBy tabled secondAt secondOn timeAt atCandidate counted walkedBy frame days lists at from
 until = refl
 
 -- COUNT counts what is handed out, and not what is before the start
 count : daysWalk frame (from 32401 Until.Absent (Count.Times 2)) (at 0 0 0) days lists (7 ∷ 7 ∷ 7 ∷ [])
     ≡ walkedBy (record { why = Why.Count; held = at 3 2 2 }) (36000 ∷ 205200 ∷ 7 ∷ [])
-unfolding walkFrom walk givenBy tabled secondAt secondOn timeAt atCandidate counted walkedBy frame days lists at from
+unfolding isFramed isReady walkFrom walk givenBy tabled secondAt secondOn timeAt atCandidate counted walkedBy frame days lists at from
 count = refl
 
 -- the first day is passed at one go where the start is on the next; and not where the start is its last second
 passed : passedDays false frame (from 86400 Until.Absent Count.Absent) (at 0 0 0) days ≡ at 2 0 0
-unfolding passedDays passable frame days at from
+unfolding isFramed passedDays passable frame days at from
 passed = refl
 
 not-passed : passedDays false frame (from 86399 Until.Absent Count.Absent) (at 0 0 0) days ≡ at 0 0 0
-unfolding passedDays passable frame days at from
+unfolding isFramed passedDays passable frame days at from
 not-passed = refl
 
 -- places 1 and 3 are kept
 kept : placesWalk frame (from 0 Until.Absent Count.Absent) (at 0 0 0) 2 (1 ∷ 3 ∷ []) days lists (7 ∷ 7 ∷ [])
     ≡ walkedBy (record { why = Why.Through; held = at 2 2 2 }) (36000 ∷ 208800 ∷ [])
-unfolding walkFrom walk givenBy tabled secondChosen secondAt secondOn timeAt atCandidate counted walkedBy frame days lists at from
+unfolding isFramed isReady walkFrom walk givenBy tabled secondChosen secondAt secondOn timeAt atCandidate counted walkedBy frame days lists at from
 kept = refl
+
+-- a start before 1970 is not walked from, and more places than there are, are not walked over: nothing changes
+unready : daysWalk frame (record { start = 62135596799; until = Until.Absent; count = Count.Absent }) (at 0 0 0) days lists (7 ∷ [])
+    ≡ walkedBy (record { why = Why.Through; held = at 0 0 0 }) (7 ∷ [])
+unfolding isFramed isReady walkedBy frame at
+unready = refl
+
+too-many : placesWalk frame (from 0 Until.Absent Count.Absent) (at 0 0 0) 733 (1 ∷ 3 ∷ []) days lists (7 ∷ 7 ∷ [])
+    ≡ walkedBy (record { why = Why.Through; held = at 0 0 0 }) (7 ∷ 7 ∷ [])
+unfolding walkedBy at
+too-many = refl

@@ -6,4 +6,5 @@ pub mod PassLaws
 pub mod Passing
 pub mod ReadBack
 pub mod SecondLaws
+pub mod Walkable
 pub mod WalkLaws

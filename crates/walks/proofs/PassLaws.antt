@@ -2,7 +2,7 @@
 -- Assumes nothing.
 use Prim.Native.Nat.{ℕ, zero, suc, _+_, _-_, _*_, _/_, _%_, _≤_, _<_}
 use mathlib.Core.Path.{_≡_, refl, sym, ap, _∙_}
-use mathlib.Core.Bool.{Bool, true, false, not, _&&_, _||_}
+use mathlib.Core.Bool.{Bool, true, false}
 use mathlib.Core.List.{List}
 use lib.ListN.{length, getD}
 use lib.Dec.{eqb, ltb}
@@ -10,10 +10,11 @@ use mir.Syntax.{w32}
 use mir.Val.{Fits}
 use native.Mathlib.Nat.{suc-mul, mul-le-mul, div-mul-le-self, mod-eq-sub-div-mul}
 use native.Mathlib.Omega.{arith}
-use borrow.Author.Tests.{eq-eqb, ne-eqb, eqb-true, eqb-false, not-true, not-false}
+use borrow.Author.Tests.{eq-eqb, ne-eqb, eqb-true, eqb-false}
 use Rattle.walks.specs.declared.rrule_iter.Held.{Held}
 use Rattle.walks.specs.declared.rrule_iter.Bounds.{Bounds}
 use Rattle.walks.specs.declared.rrule_iter.Frame.{Frame}
+use Rattle.walks.specs.Walks.{isFramed}
 use Rattle.walks.specs.Passing.{isPassed, lastOf, passable, heldAt, passedDays}
 use Rattle.walks.proofs.SecondLaws.{next-day}
 
@@ -44,31 +45,30 @@ at-beginning p d t e =
     let a : p / t * t ≡ p → ⊥ = eqb-false _ _ q in
     q ∙ sym (ne-eqb (p % t) 0 (λ (z : p % t ≡ 0). a (omega arith)))))
 
-kept-whole : (full : Bool) (p d t : ℕ) → d ≡ p / t → (full || not (eqb (d * t) p)) ≡ true → (not full && eqb (p % t) 0) ≡ false
-kept-whole true p d t e h = refl
-kept-whole false p d t e h = sym (at-beginning p d t e) ∙ not-true _ h
-
-not-kept : (full : Bool) (p d t : ℕ) → d ≡ p / t → (full || not (eqb (d * t) p)) ≡ false → (not full && eqb (p % t) 0) ≡ true
-not-kept true p d t e h = sym h
-not-kept false p d t e h = sym (at-beginning p d t e) ∙ not-false _ h
-
 -- where the buffer is full, none is passed
 pub full-passes-none : (full : Bool) (f : Frame) (b : Bounds) (h : Held) (days : List ℕ) → full ≡ true → h ≡ passedDays full f b h days
 unfolding passedDays
 full-passes-none full f b h days t = rw (t, passedDays)
 
+-- nor where no period has such a frame
+pub unframed-passes-none : (full : Bool) (f : Frame) (b : Bounds) (h : Held) (days : List ℕ) → full ≡ false → isFramed f ≡ false
+    → h ≡ passedDays full f b h days
+unfolding passedDays
+unframed-passes-none full f b h days t g = rw (t, g, passedDays)
+
 -- where the days from number d on lead, of n in all
 unfoldable pub Leads : Bounds → Frame → List ℕ → (n d place : ℕ) → ℕ
 Leads b f days n d place = place + passable b f days d (n - d) * f .times
 
-module _ (full : Bool) (f : Frame) (b : Bounds) (h : Held) (days : List ℕ) (d : ℕ) (e : d ≡ h .place / f .times) where
-  pub none-passed : full ≡ false → (d * f .times ≡ h .place → ⊥) → passedDays full f b h days ≡ h
+module _ (full : Bool) (f : Frame) (b : Bounds) (h : Held) (days : List ℕ) (d : ℕ) (e : d ≡ h .place / f .times) (t : full ≡ false)
+    (g : isFramed f ≡ true) where
+  pub none-passed : (d * f .times ≡ h .place → ⊥) → passedDays full f b h days ≡ h
   unfolding passedDays
-  none-passed t q = rw (kept-whole full (h .place) d (f .times) e (rw (t, ne-eqb _ _ q)), passedDays)
+  none-passed q = let z : eqb (h .place % f .times) 0 ≡ false = sym (at-beginning (h .place) d (f .times) e) ∙ ne-eqb _ _ q in rw (t, g, z, passedDays)
 
-  pub days-passed : full ≡ false → d * f .times ≡ h .place → passedDays full f b h days ≡ heldAt h (Leads b f days (f .days) d (h .place))
+  pub days-passed : d * f .times ≡ h .place → passedDays full f b h days ≡ heldAt h (Leads b f days (f .days) d (h .place))
   unfolding passedDays Leads
-  days-passed t q = rw (not-kept full (h .place) d (f .times) e (rw (t, eq-eqb _ _ q)), passedDays, e)
+  days-passed q = let z : eqb (h .place % f .times) 0 ≡ true = sym (at-beginning (h .place) d (f .times) e) ∙ eq-eqb _ _ q in rw (t, g, z, passedDays, e)
 
 module _ (b : Bounds) (f : Frame) (days : List ℕ) (n d place : ℕ) where
   pub leads-on : d < n → isPassed b (lastOf f days d) ≡ true → Leads b f days n d place ≡ Leads b f days n (d + 1) (place + f .times)

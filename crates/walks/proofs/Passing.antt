@@ -12,12 +12,13 @@ use native.Mathlib.Omega.{arith}
 use borrow.Author.Tests.{ltb-true, ltb-false, le-ltb, eqb-true, not-true}
 use Rattle.machine.specs.Given.{Bound, Bound.absent, Bound.present, above}
 use Rattle.machine.specs.Compute.{Walked}
+use Rattle.rule.proofs.FillLaws.{both}
 use Rattle.rule.proofs.Order.{below-or}
 use Rattle.times.specs.TimeSets.{timeAt}
 use Rattle.walks.specs.declared.rrule_iter.Held.{Held}
 use Rattle.walks.specs.declared.rrule_iter.Bounds.{Bounds}
 use Rattle.walks.specs.declared.rrule_iter.Frame.{Frame}
-use Rattle.walks.specs.Walks.{boundOf, secondOn, secondAt, walkFrom, daysWalk}
+use Rattle.walks.specs.Walks.{boundOf, isFramed, secondOn, secondAt, walkFrom}
 use Rattle.walks.specs.Passing.{isPassed, lastOf, passable, heldAt, passedDays, Timely}
 use Rattle.walks.proofs.SecondLaws.{within-days, next-day, second-there}
 use Rattle.walks.proofs.WalkLaws.{rest-pass}
@@ -26,11 +27,6 @@ use Rattle.walks.proofs.WalkLaws.{rest-pass}
 not-above-down : (u : Bound) (x y : ℕ) → x ≤ y → above u y ≡ false → above u x ≡ false
 not-above-down absent x y h e = refl
 not-above-down (present b) x y h e = let a : y ≤ b = ltb-false b y e in le-ltb b x (omega arith)
-
-both : (a b : Bool) → (a && b) ≡ true → (a ≡ true) × (b ≡ true)
-both true true e = (refl, refl)
-both true false e = absurd (let z : _≡_ {A = ℕ} 0 1 = cc in omega arith)
-both false b e = absurd (let z : _≡_ {A = ℕ} 0 1 = cc in omega arith)
 
 -- a second before the start, and not above UNTIL
 abbrev Early : Bounds → ℕ → Type 0
@@ -115,7 +111,7 @@ module _ (full : Bool) (f : Frame) (b : Bounds) (h : Held) (days : List ℕ) whe
       → P (heldAt h (h .place + passable b f days (h .place / f .times) (f .days - h .place / f .times) * f .times)))
       → P (passedDays full f b h days)
   unfolding passedDays passable
-  passed-cases P none some = step (not full && eqb (h .place % f .times) 0) refl
+  passed-cases P none some = step (not full && (isFramed f && eqb (h .place % f .times) 0)) refl
     where
       beyond : f .days < h .place / f .times → P (heldAt h (h .place + passable b f days (h .place / f .times) (f .days - h .place / f .times) * f .times))
       beyond l =
@@ -123,16 +119,17 @@ module _ (full : Bool) (f : Frame) (b : Bounds) (h : Held) (days : List ℕ) whe
           let e : h .place + passable b f days (h .place / f .times) (f .days - h .place / f .times) * f .times ≡ h .place = rw z (omega arith) in
           subst (λ (p : ℕ). P (heldAt h p)) (sym e) none
 
-      step : (t : Bool) → (not full && eqb (h .place % f .times) 0) ≡ t → P (elim t [
+      step : (t : Bool) → (not full && (isFramed f && eqb (h .place % f .times) 0)) ≡ t → P (elim t [
         | true ↦ heldAt h (h .place + passable b f days (h .place / f .times) (f .days - h .place / f .times) * f .times)
         | false ↦ h
       ])
       step false e = none
       step true e =
-          let w : (not full ≡ true) × (eqb (h .place % f .times) 0 ≡ true) = both _ _ e in
+          let v = both (not full) _ e in
+          let w = both (isFramed f) _ (v .1) in
           ⊎-elim
           (λ (l : f .days < h .place / f .times). beyond l)
-          (λ (l : h .place / f .times ≤ f .days). some (not-true _ (w .0)) (begins-day _ _ (eqb-true _ _ (w .1))) l)
+          (λ (l : h .place / f .times ≤ f .days). some (not-true _ (v .0)) (begins-day _ _ (eqb-true _ _ (w .1))) l)
           (below-or (f .days) (h .place / f .times))
 
   -- nothing else changes
@@ -154,9 +151,13 @@ module _ (full : Bool) (f : Frame) (b : Bounds) (h : Held) (days : List ℕ) whe
   -- With a slot free, or told that the buffer is full, the walk from there is the walk from here, where every time is within its day.
   pub passed-walks : (lists buffer : List ℕ) → (full ≡ false → h .handed ≡ length buffer → ⊥)
       → Timely f lists
-      → daysWalk f b h days lists buffer ≡ daysWalk f b (passedDays full f b h days) days lists buffer
+      → walkFrom b (secondAt f days lists) (f .days * f .times) h buffer
+      ≡ walkFrom b (secondAt f days lists) (f .days * f .times) (passedDays full f b h days) buffer
   passed-walks lists buffer free timely =
-      passed-cases (λ (r : Held). daysWalk f b h days lists buffer ≡ daysWalk f b r days lists buffer) refl
+      passed-cases
+      (λ (r : Held).
+      walkFrom b (secondAt f days lists) (f .days * f .times) h buffer ≡ walkFrom b (secondAt f days lists) (f .days * f .times) r buffer)
+      refl
       (λ a e l.
       ap (λ (p : ℕ). walkFrom b (secondAt f days lists) (f .days * f .times) (heldAt h p) buffer) e
       ∙ walk-past b f days lists timely h buffer (free a) (f .days) (f .days - h .place / f .times) (h .place / f .times) (omega arith)

@@ -10,7 +10,7 @@ use Rattle.times.specs.TimeSets.{timeAt}
 use Rattle.walks.specs.declared.rrule_iter.Held.{Held}
 use Rattle.walks.specs.declared.rrule_iter.Bounds.{Bounds}
 use Rattle.walks.specs.declared.rrule_iter.Frame.{Frame}
-use Rattle.walks.specs.Walks.{boundOf}
+use Rattle.walks.specs.Walks.{boundOf, isFramed}
 
 -- A day may be passed, by its last second: that is before the start, and not above UNTIL.
 abbrev pub isPassed : Bounds → ℕ → Bool
@@ -32,9 +32,9 @@ passable b f days d (suc n) = elim (isPassed b (lastOf f days d)) [
 abbrev pub heldAt : Held → ℕ → Held
 heldAt h place = record { k = h .k; place = place; number = h .number; moves = h .moves; handed = h .handed }
 
--- What a call holds when those days are passed. None is where the buffer is full, or the place is within a day.
+-- What a call holds when those days are passed. None is where no period has such a frame, the buffer is full, or the place is within a day.
 unfoldable pub passedDays : Bool → Frame → Bounds → Held → List ℕ → Held
-passedDays full f b h days = elim (not full && eqb (h .place % f .times) 0) [
+passedDays full f b h days = elim (not full && (isFramed f && eqb (h .place % f .times) 0)) [
   | true ↦ heldAt h (h .place + passable b f days (h .place / f .times) (f .days - h .place / f .times) * f .times)
   | false ↦ h
 ]

@@ -2,9 +2,11 @@
 -- Assumes nothing.
 use Prim.Native.Nat.{ℕ, zero, suc, _+_, _-_, _*_, _/_, _%_, _≤_, _<_, _^_}
 use mathlib.Core.Path.{_≡_}
-use mathlib.Core.Bool.{true}
+use mathlib.Core.Bool.{Bool, true, _&&_}
 use mathlib.Core.List.{List, [], _∷_}
 use lib.ListN.{length, getD}
+use lib.Dec.{leb}
+use Rattle.calendar.specs.Calendar.{if_then_else_}
 use Rattle.machine.specs.declared.Cause.{Cause}
 use Rattle.machine.specs.declared.State.{State}
 use Rattle.machine.specs.declared.Stop.{Stop}
@@ -64,12 +66,19 @@ abbrev pub Bytes : List ℕ → Type 0
 Bytes row = (i : ℕ) → getD row i 0 < 256
 
 -- a period's days and times keep to what a year and a day have, and its year begins by the last day of 9999
+unfoldable pub isFramed : Frame → Bool
+isFramed f = leb (f .days) 373 && (leb (f .times) 86400 && leb (f .first) 3652059)
+
+-- A call is ready to walk: the start is not before 1970, the buffer has room for what was handed out, and the count of all is far from its limit.
+unfoldable pub isReady : Bounds → Held → (room : ℕ) → Bool
+isReady b h room = leb 62135596800 (b .start) && (leb (h .handed) room && leb (h .number) (2 ^ 62))
+
+-- the same in words
 pub record Framed (f : Frame) : Type 0 where
   pub days : f .days ≤ 373
   pub times : f .times ≤ 86400
   pub first : f .first ≤ 3652059
 
--- A call is ready to walk: the start is not before 1970, the buffer holds what was handed out, and the count of all is far from its limit.
 pub record Ready (b : Bounds) (h : Held) (buffer : List ℕ) : Type 0 where
   pub start : 62135596800 ≤ b .start
   pub handed : h .handed ≤ length buffer
@@ -98,12 +107,19 @@ tabled f i (suc n) = f i ∷ tabled f (i + 1) n
 unfoldable pub walkFrom : Bounds → (ℕ → ℕ) → ℕ → Held → List ℕ → compute.Walked ℕ
 walkFrom b f n h buffer = compute.walk (givenBy b) (tabled f (h .place) (n - h .place)) (nowOf State.Running h buffer)
 
--- the walk over days and times, and the walk over the places of kept candidates, n of them
+-- whether there is anything to walk over: a frame that a period can have, and a call that is ready
+abbrev pub isWalkable : Frame → Bounds → Held → List ℕ → Bool
+isWalkable f b h buffer = isFramed f && isReady b h (length buffer)
+
+-- The walk over days and times, and the walk over the places of kept candidates, n of them. Where there is nothing to walk over, or more places
+-- are told than there are, the walk comes through at once, and nothing changes.
 abbrev pub daysWalk : Frame → Bounds → Held → (days lists buffer : List ℕ) → compute.Walked ℕ
-daysWalk f b h days lists buffer = walkFrom b (secondAt f days lists) (f .days * f .times) h buffer
+daysWalk f b h days lists buffer =
+    if isWalkable f b h buffer then walkFrom b (secondAt f days lists) (f .days * f .times) h buffer else compute.through (nowOf State.Running h buffer)
 
 abbrev pub placesWalk : Frame → Bounds → Held → ℕ → (places days lists buffer : List ℕ) → compute.Walked ℕ
-placesWalk f b h n places days lists buffer = walkFrom b (secondChosen f days lists places) n h buffer
+placesWalk f b h n places days lists buffer =
+    if leb n 732 && isWalkable f b h buffer then walkFrom b (secondChosen f days lists places) n h buffer else compute.through (nowOf State.Running h buffer)
 
 -- What a walk from h over n candidates keeps to: the period and the moves stay, and so does the buffer's length; as many are numbered as handed
 -- out, and none without room; the place rises, and stays among the n candidates.

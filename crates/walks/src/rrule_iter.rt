@@ -9,7 +9,7 @@ ghost use Prim.Native.Nat.{_+_, _*_, _/_, _≤_, _<_, _^_};
 ghost use lib.ListN.{getD};
 ghost use Rattle.machine.specs.Given.{above, reaches};
 ghost use Rattle.rule.specs.Run.{countOf};
-ghost use Rattle.walks.specs.Walks.{boundOf, walkedBy, Bytes, Framed, Ready, secondOn, secondAt, daysWalk, placesWalk};
+ghost use Rattle.walks.specs.Walks.{boundOf, walkedBy, Bytes, isFramed, isReady, secondOn, secondAt, daysWalk, placesWalk};
 ghost use Rattle.walks.specs.Passing.{isPassed, passedDays};
 
 // Why a walk has stopped; Through where no candidate remains.
@@ -133,8 +133,22 @@ fn second_at(frame: Frame, days: &[u16; 373], lists: &[u8; 144], number: u32) ->
     second_on(frame, days, lists, day as usize, number - day * frame.times)
 }
 
+// Whether a frame is such as a period has: outside that, a sum could wrap.
+fn is_framed(frame: Frame) -> bool
+    ensures { λ r. ⌜ r ≡ isFramed frame ⌝ }
+{
+    (frame.days <= 373) & ((frame.times <= 86400) & (frame.first <= 3652059))
+}
+
+// Whether a call is ready to walk, with so much room in the buffer.
+fn is_ready(bounds: Bounds, held: Held, room: usize) -> bool
+    ensures { λ r. ⌜ r ≡ isReady bounds held room ⌝ }
+{
+    (62135596800 <= bounds.start) & ((held.handed <= room) & (held.number <= 4611686018427387904))
+}
+
 // The walk over the days and their times, from the place on: each candidate is passed, and handed out if it is not before the start. A full
-// buffer, UNTIL and COUNT leave it from inside.
+// buffer, UNTIL and COUNT leave it from inside. What no period has, and a call that isn't ready, it leaves as they are.
 pub fn walk_days(
     frame: Frame,
     bounds: Bounds,
@@ -143,11 +157,13 @@ pub fn walk_days(
     lists: &[u8; 144],
     buffer: &mut [u64],
 ) -> Walked
-    requires { ⌜ Framed frame × Ready bounds held (now buffer) ⌝ }
     ensures { λ r. ⌜ walkedBy r (now (buffer .exit)) ≡ daysWalk frame bounds held (now (days .entry)) (now (lists .entry)) (now (buffer .entry)) ⌝ }
 {
     let mut why = Why::Through;
     let mut at = held;
+    if !(is_framed(frame) & is_ready(bounds, held, buffer.len())) {
+        return Walked { why, held: at };
+    }
     if frame.times == 0 {
         return Walked { why, held: at };
     }
@@ -193,13 +209,16 @@ fn is_passed(bounds: Bounds, last: u64) -> bool
     !is_late(bounds, last)
 }
 
-// Passes the days from the place on that lie before the start, at one go; none where the buffer is full, or the place is within a day.
+// Passes the days from the place on that lie before the start, at one go; none where the buffer is full, or the place is within a day, or no
+// period has such a frame.
 pub fn pass_days(full: bool, frame: Frame, bounds: Bounds, held: Held, days: &[u16; 373]) -> Held
-    requires { ⌜ Framed frame ⌝ }
     ensures { λ r. ⌜ r ≡ passedDays full frame bounds held (now (days .entry)) ⌝ }
 {
     let mut at = held;
     if full {
+        return at;
+    }
+    if !is_framed(frame) {
         return at;
     }
     let first_day = quotient(held.place, frame.times);
@@ -216,7 +235,7 @@ pub fn pass_days(full: bool, frame: Frame, bounds: Bounds, held: Held, days: &[u
     at
 }
 
-// The same over the kept candidates, where positions choose: their numbers stand in places.
+// The same over the kept candidates, where positions choose: their numbers stand in places. No period keeps more than these.
 pub fn walk_places(
     frame: Frame,
     bounds: Bounds,
@@ -227,12 +246,14 @@ pub fn walk_places(
     lists: &[u8; 144],
     buffer: &mut [u64],
 ) -> Walked
-    requires { ⌜ (frame .first ≤ 3652059) × (kept ≤ 732) × Ready bounds held (now buffer) ⌝ }
     ensures { λ r. ⌜ walkedBy r (now (buffer .exit))
         ≡ placesWalk frame bounds held kept (now (places .entry)) (now (days .entry)) (now (lists .entry)) (now (buffer .entry)) ⌝ }
 {
     let mut why = Why::Through;
     let mut at = held;
+    if !((kept <= 732) & (is_framed(frame) & is_ready(bounds, held, buffer.len()))) {
+        return Walked { why, held: at };
+    }
     for i in held.place as usize..kept {
         let slot = at.handed;
         if slot == buffer.len() {

@@ -31,10 +31,9 @@ walkable positioned bysetpos f frame bounds held lists buffer e o =
     subst (λ (x : Frame). Framed x × Timely x lists × Ready bounds held buffer) (sym e) (o .sound .framed, o .sound .time-high, o .ready)
 
 few-kept : (positioned : Bool) (bysetpos : List Bool) (f frame : Frame) (kept : ℕ) (bounds : Bounds) (held : Held) (lists buffer : List ℕ) → positioned ≡ true → frame ≡ f → kept ≡ keptBy positioned bysetpos frame
-    → Openable positioned bysetpos f bounds held lists buffer → (frame .first ≤ 3652059) × (kept ≤ 732) × Ready bounds held buffer
+    → Openable positioned bysetpos f bounds held lists buffer → kept ≤ 732
 few-kept positioned bysetpos f frame kept bounds held lists buffer p e k o =
-    subst (λ (n : ℕ). (frame .first ≤ 3652059) × (n ≤ 732) × Ready bounds held buffer) (sym k)
-    (subst (λ (x : Frame). (x .first ≤ 3652059) × (keptBy positioned bysetpos x ≤ 732) × Ready bounds held buffer) (sym e) (o .sound .framed .first, o .sound .kept-high p, o .ready))
+    subst (λ (n : ℕ). n ≤ 732) (sym k) (subst (λ (x : Frame). keptBy positioned bysetpos x ≤ 732) (sym e) (o .sound .kept-high p))
 
 -- the walk over the frame that was made is that over the frame
 walked-as : (positioned : Bool) (bysetpos : List Bool) (f frame : Frame) (kept : ℕ) (bounds : Bounds) (held : Held) (days lists places buffer : List ℕ) (w : compute.Walked ℕ) → frame ≡ f → kept ≡ keptBy positioned bysetpos frame
@@ -67,10 +66,11 @@ returns-2 c =
     let a = c .before .before .before .before .before .before .before .before .args in
     let e = c .before .before .before .before .before .frame-of .ensures in
     let frame = c .before .before .before .before .before .frame-of .result in
-    let p = not-true _ (c .before .before .before .before .if2 .taken) in (
+    let p = not-true _ (c .before .before .before .before .if2 .taken) in
+    let w = walkable _ _ _ _ _ _ _ _ e (c .before .before .before .before .before .before .before .before .pre .1) in (
       walked-as (a .positioned) (a .bysetpos .now) _ frame (keptBy (a .positioned) (a .bysetpos .now) frame) (a .bounds) (a .held) (a .days .now) (a .lists .now) (a .places .now) (a .buffer .now) _ e refl
           (c .before .before .walk-all .ensures
-          ∙ by-days (a .positioned) frame (a .bounds) (a .held) (keptBy (a .positioned) (a .bysetpos .now) frame) (a .days .now) (a .lists .now) (a .places .now) (a .buffer .now) p (kept-all (a .positioned) p (a .bysetpos .now) frame)),
+          ∙ by-days (a .positioned) frame (a .bounds) (a .held) (keptBy (a .positioned) (a .bysetpos .now) frame) (a .days .now) (a .lists .now) (a .places .now) (a .buffer .now) (w .0) (w .2) p (kept-all (a .positioned) p (a .bysetpos .now) frame)),
       none-chosen (a .positioned) p (a .bysetpos .now) (frameOf (a .freq) (a .counts) (a .tick) (a .first) (a .count) (a .clock .now)) (a .places .now),
     )
 
@@ -81,7 +81,7 @@ cast-kept : tie.Need-cast-kept
 cast-kept c = search needs
 
 walk-places-requires : tie.Need-walk-places-requires
-walk-places-requires c κs = few-kept _ _ _ _ _ _ _ _ _ (not-false _ (c .before .before .before .before .if2 .left)) (c .before .before .before .before .before .frame-of .ensures) (c .before .before .kept-of .ensures .0) (c .before .before .before .before .before .before .before .before .pre .1)
+walk-places-requires c κs = search needs
 
 same-length-2 : tie.Need-same-length-2
 same-length-2 c = search needs
@@ -92,10 +92,12 @@ returns-3 c =
     let e = c .before .before .before .before .before .before .before .before .frame-of .ensures in
     let frame = c .before .before .before .before .before .before .before .before .frame-of .result in
     let k = c .before .before .before .before .before .kept-of .ensures in
-    let p = not-false _ (c .before .before .before .before .before .before .before .if2 .left) in (
+    let p = not-false _ (c .before .before .before .before .before .before .before .if2 .left) in
+    let o = c .before .before .before .before .before .before .before .before .before .before .before .pre .1 in
+    let w = walkable _ _ _ _ _ _ _ _ e o in (
       walked-as (a .positioned) (a .bysetpos .now) _ frame (c .before .before .before .before .before .kept-of .result) (a .bounds) (a .held) (a .days .now) (a .lists .now) _ (a .buffer .now) _ e (k .0)
           (c .before .before .walk-places .ensures
-          ∙ by-places (a .positioned) frame (a .bounds) (a .held) (c .before .before .before .before .before .kept-of .result) (a .days .now) (a .lists .now) _ (a .buffer .now) p),
+          ∙ by-places (a .positioned) frame (a .bounds) (a .held) (c .before .before .before .before .before .kept-of .result) (a .days .now) (a .lists .now) _ (a .buffer .now) (w .0) (w .2) p (few-kept _ _ _ _ _ _ _ _ _ p e (k .0) o)),
       k .1 ∙ ap (λ (x : Frame). chosenBy (a .positioned) (a .bysetpos .now) x (a .places .now)) e,
     )
 

@@ -1,15 +1,18 @@
 -- `settling::rrule_iter::moved_to` meets its contract.
 -- Assumes nothing.
-use mathlib.Core.Path.{refl}
+use Prim.Native.Nat.{ℕ}
+use mathlib.Core.Path.{ap}
 use borrow.Author.Needs.{needs}
 use Rattle.settling.proofs.rrule_iter.moved_to.Statement.{statement}
 use Rattle.settling.proofs.rrule_iter.moved_to.Tie as tie
 
-add-t3 : tie.Need-add-t3
-add-t3 c = search needs
+one-more-requires : tie.Need-one-more-requires
+one-more-requires c κs = search needs
 
 returns : tie.Need-returns
-returns c = refl
+returns c =
+    let a = c .before .args in
+    ap (λ (n : ℕ). record { k = a .k; place = 0; number = a .held .number; moves = n; handed = a .held .handed }) (c .one-more .ensures)
 
 pub moved-to-spec : {M : Type 1} → statement M
-moved-to-spec = tie.close (tie.spec add-t3 returns)
+moved-to-spec = tie.close (tie.spec one-more-requires returns)

@@ -9,9 +9,12 @@ use native.Mathlib.Omega.{arith}
 use borrow.Author.Needs.{needs}
 use borrow.Author.Tests.{not-true, not-false}
 use Rattle.walks.specs.declared.rrule_iter.Held.{Held}
+use Rattle.walks.specs.Walks.{Framed, isFramed}
 use Rattle.walks.specs.Passing.{isPassed, lastOf, heldAt, passedDays}
 use Rattle.walks.proofs.SecondLaws.{next-day}
-use Rattle.walks.proofs.PassLaws.{day-on-fits, full-passes-none, none-passed, days-passed, Leads, leads-on, leads-off, leads-over}
+use Rattle.walks.proofs.PassLaws.{day-on-fits, full-passes-none, unframed-passes-none, none-passed, days-passed}
+use Rattle.walks.proofs.PassLaws.{Leads, leads-on, leads-off, leads-over}
+use Rattle.walks.proofs.Walkable.{framed-told}
 use Rattle.walks.proofs.rrule_iter.pass_days.Statement.{statement}
 use Rattle.walks.proofs.rrule_iter.pass_days.Tie as tie
 
@@ -23,53 +26,69 @@ Inv-loop full frame bounds days at₀ first-day day₀ day-end at day =
 abbrev μ-loop : tie.MeasureT-loop
 μ-loop full frame bounds days at₀ first-day day₀ day-end at day = frame .days - day
 
+-- behind the guard the frame is such as a period has
+framing : (c : tie.Else2 Inv-loop μ-loop) → isFramed (c .before .before .before .args .frame) ≡ true
+framing c = sym (c .before .is-framed .ensures) ∙ not-false _ (c .if2 .left)
+
+framed : (c : tie.Else2 Inv-loop μ-loop) → Framed (c .before .before .before .args .frame)
+framed c = framed-told _ (framing c)
+
 -- whether the day in hand is passed
 passes : (c : tie.After-is-passed Inv-loop μ-loop) →
     let l = c .before .before .before .before in
-    let a = l .before .before .before .before .before .before .args in
+    let a = l .before .before .before .before .before .before .before .before .args in
     isPassed (a .bounds) (lastOf (a .frame) (a .days .now) (l .loop .day)) ≡ c .is-passed .result
 passes c =
     let l = c .before .before .before .before in
-    let a = l .before .before .before .before .before .before .args in
+    let a = l .before .before .before .before .before .before .before .before .args in
     sym (c .is-passed .ensures ∙ ap (λ (m : ℕ). isPassed (a .bounds) (m + 86399)) (c .before .midnight-of .ensures .0))
 
 -- where the loop has come to is where the days lead
 passed-so : (c : tie.At-loop Inv-loop μ-loop) →
-    let a = c .before .before .before .before .before .before .args in
+    let a = c .before .before .before .before .before .before .before .before .args in
     Leads (a .bounds) (a .frame) (a .days .now) (a .frame .days) (c .loop .day) (c .loop .at .place) ≡ c .loop .at .place
     → c .loop .at ≡ passedDays (a .full) (a .frame) (a .bounds) (a .held) (a .days .now)
 passed-so c e =
     let q = c .before .before .before .before in
-    let a = q .before .before .args in
+    let a = q .before .before .before .before .args in
     c .loop .inv .0
     ∙ ap (λ (p : ℕ). heldAt (a .held) p) (sym (c .loop .inv .2 ∙ e))
-    ∙ sym (days-passed (a .full) (a .frame) (a .bounds) (a .held) (a .days .now) _ (q .quotient .ensures) (q .before .if1 .left) (c .before .if2 .left))
+    ∙ sym (days-passed (a .full) (a .frame) (a .bounds) (a .held) (a .days .now) _ (q .quotient .ensures)
+    (q .before .before .before .if1 .left) (framing (q .before)) (c .before .if3 .left))
 
 returns : tie.Need-returns Inv-loop μ-loop
 returns c = full-passes-none (c .before .args .full) _ _ _ _ (c .if1 .taken)
 
-quotient-requires : tie.Need-quotient-requires Inv-loop μ-loop
-quotient-requires c κs = search needs
-
-mul-if2 : tie.Need-mul-if2 Inv-loop μ-loop
-mul-if2 c =
-    let a = c .before .before .before .args in
-    rw (c .before .quotient .ensures) (omega (arith, div-mul-le-self (a .held .place) (a .frame .times)))
+is-framed-requires : tie.Need-is-framed-requires Inv-loop μ-loop
+is-framed-requires c κs = search needs
 
 returns-2 : tie.Need-returns-2 Inv-loop μ-loop
 returns-2 c =
+    unframed-passes-none _ _ _ _ _ (c .before .before .if1 .left) (sym (c .before .is-framed .ensures) ∙ not-true _ (c .if2 .taken))
+
+quotient-requires : tie.Need-quotient-requires Inv-loop μ-loop
+quotient-requires c κs = search needs
+
+mul-if3 : tie.Need-mul-if3 Inv-loop μ-loop
+mul-if3 c =
+    let a = c .before .before .before .before .before .args in
+    rw (c .before .quotient .ensures) (omega (arith, div-mul-le-self (a .held .place) (a .frame .times)))
+
+returns-3 : tie.Need-returns-3 Inv-loop μ-loop
+returns-3 c =
     let q = c .before .before .before in
-    let a = q .before .before .args in
-    sym (none-passed (a .full) (a .frame) (a .bounds) (a .held) (a .days .now) _ (q .quotient .ensures) (q .before .if1 .left) (c .if2 .taken))
+    let a = q .before .before .before .before .args in
+    sym (none-passed (a .full) (a .frame) (a .bounds) (a .held) (a .days .now) _ (q .quotient .ensures)
+    (q .before .before .before .if1 .left) (framing (q .before)) (c .if3 .taken))
 
 cast-day : tie.Need-cast-day Inv-loop μ-loop
 cast-day c = search needs
 
 loop-holds : tie.Need-loop-holds Inv-loop μ-loop
-loop-holds c = (refl, sym (c .if2 .left), refl)
+loop-holds c = (refl, sym (c .if3 .left), refl)
 
 midnight-of-requires : tie.Need-midnight-of-requires Inv-loop μ-loop
-midnight-of-requires c κs = search needs
+midnight-of-requires c κs = framed (c .before .before .before .before .before .before .before) .first
 
 add-is-passed : tie.Need-add-is-passed Inv-loop μ-loop
 add-is-passed c = search needs
@@ -81,7 +100,7 @@ add-at : tie.Need-add-at Inv-loop μ-loop
 add-at c =
     let i = c .before .before .before .before .before .before in
     let l = i .before in
-    let p = l .before .before .before .before .before .before .pre in
+    let p = framed (l .before .before .before .before .before) in
     day-on-fits _ _ _ _ (p .days) (p .times) (i .loop-test .taken) (l .loop .inv .1)
 
 add-day : tie.Need-add-day Inv-loop μ-loop
@@ -94,21 +113,21 @@ loop-again : tie.Need-loop-again Inv-loop μ-loop
 loop-again c =
     let e = c .before .before in
     let l = e .before .before .before .before .before in
-    let a = l .before .before .before .before .before .before .args in (
+    let a = l .before .before .before .before .before .before .before .before .args in (
       ap (λ (h : Held). heldAt h (l .loop .at .place + a .frame .times)) (l .loop .inv .0),
       rw (next-day (l .loop .day) (a .frame .times), l .loop .inv .1),
-      l .loop .inv .2 ∙ leads-on _ _ _ _ _ _ (e .before .before .before .before .loop-test .taken) (passes (e .before) ∙ not-false _ (e .if3 .left)),
+      l .loop .inv .2 ∙ leads-on _ _ _ _ _ _ (e .before .before .before .before .loop-test .taken) (passes (e .before) ∙ not-false _ (e .if4 .left)),
     )
-
-returns-3 : tie.Need-returns-3 Inv-loop μ-loop
-returns-3 c =
-    let l = c .before in
-    passed-so l (leads-over _ _ _ _ _ _ (c .loop-test .left))
 
 returns-4 : tie.Need-returns-4 Inv-loop μ-loop
 returns-4 c =
+    let l = c .before in
+    passed-so l (leads-over _ _ _ _ _ _ (c .loop-test .left))
+
+returns-5 : tie.Need-returns-5 Inv-loop μ-loop
+returns-5 c =
     let l = c .before .before .before .before .before in
-    passed-so l (leads-off _ _ _ _ _ _ (c .before .before .before .before .loop-test .taken) (passes (c .before) ∙ not-true _ (c .if3 .taken)))
+    passed-so l (leads-off _ _ _ _ _ _ (c .before .before .before .before .loop-test .taken) (passes (c .before) ∙ not-true _ (c .if4 .taken)))
 
 pub pass-days-spec : {M : Type 1} → statement M
 pass-days-spec =
@@ -117,9 +136,11 @@ pass-days-spec =
     Inv-loop
     μ-loop
     returns
-    quotient-requires
-    mul-if2
+    is-framed-requires
     returns-2
+    quotient-requires
+    mul-if3
+    returns-3
     cast-day
     loop-holds
     midnight-of-requires
@@ -129,5 +150,5 @@ pass-days-spec =
     add-day
     loop-less
     loop-again
-    returns-3
-    returns-4)
+    returns-4
+    returns-5)

@@ -8,12 +8,14 @@ use lib.ListN.{length, length-set}
 use native.Mathlib.Nat.{div-mul-le-self}
 use native.Mathlib.Omega.{arith}
 use borrow.Author.Needs.{needs}
+use borrow.Author.Tests.{not-true, not-false}
 use Rattle.machine.specs.Given.{above}
 use Rattle.walks.specs.declared.rrule_iter.Why.{Why}
 use Rattle.walks.specs.declared.rrule_iter.Held.{Held}
-use Rattle.walks.specs.Walks.{boundOf, secondAt, walkFrom}
+use Rattle.walks.specs.Walks.{boundOf, Framed, Ready, secondAt, walkFrom, isWalkable, daysWalk}
 use Rattle.walks.proofs.SecondLaws.{time-left, days-and-left, next-day, within-days, past-days, no-times, in-a-year, second-there}
 use Rattle.walks.proofs.WalkLaws.{stops, rest-over, rest-full, rest-until, rest-pass, rest-count, rest-hand}
+use Rattle.walks.proofs.Walkable.{walkable-by, walkable-told, days-walked, days-left}
 use Rattle.walks.proofs.rrule_iter.walk_days.Statement.{statement}
 use Rattle.walks.proofs.rrule_iter.walk_days.Tie as tie
 
@@ -40,78 +42,118 @@ Inv-days frame bounds days lists buffer₀ why₀ at₀ first-day time₀ day₀
 abbrev μ-days : tie.MeasureT-days
 μ-days frame bounds days lists buffer₀ why₀ at₀ first-day time₀ day₀ day-end buffer why at time day = frame .days - day
 
+-- behind the guard there is something to walk over
+walkable : (c : tie.Else1 Inv-loop μ-loop Inv-days μ-days) →
+    let a = c .before .before .before .before .args in
+    isWalkable (a .frame) (a .bounds) (a .held) (a .buffer .now) ≡ true
+walkable c =
+    let a = c .before .before .before .before .args in
+    walkable-by (a .frame) (a .bounds) (a .held) (a .buffer .now) _ _ true
+    (c .before .before .is-framed .ensures) (c .before .is-ready .ensures) (not-false _ (c .if1 .left))
+
+framed : (c : tie.Else1 Inv-loop μ-loop Inv-days μ-days) → Framed (c .before .before .before .before .args .frame)
+framed c =
+    let a = c .before .before .before .before .args in
+    walkable-told (a .frame) (a .bounds) (a .held) (a .buffer .now) (walkable c) .0
+
+ready : (c : tie.Else1 Inv-loop μ-loop Inv-days μ-days) →
+    let a = c .before .before .before .before .args in
+    Ready (a .bounds) (a .held) (a .buffer .now)
+ready c = walkable-told _ _ _ _ (walkable c) .1
+
+-- and the walk goes from the place on
+begun : (c : tie.Else1 Inv-loop μ-loop Inv-days μ-days) →
+    let a = c .before .before .before .before .args in
+    daysWalk (a .frame) (a .bounds) (a .held) (a .days .now) (a .lists .now) (a .buffer .now)
+    ≡ walkFrom (a .bounds) (secondAt (a .frame) (a .days .now) (a .lists .now)) (a .frame .days * a .frame .times) (a .held) (a .buffer .now)
+begun c = days-walked _ _ _ _ _ _ (walkable c)
+
 -- the whole walk is what is left of it at a turn of the inner loop
 whole : (c : tie.At-loop Inv-loop μ-loop Inv-days μ-days) →
-    let a = c .before .before .before .before .before .before .before .before .before .args in
-    walkFrom (a .bounds) (secondAt (a .frame) (a .days .now) (a .lists .now)) (a .frame .days * a .frame .times) (a .held) (a .buffer .now)
+    let a = c .before .before .before .before .before .before .before .before .before .before .before .before .args in
+    daysWalk (a .frame) (a .bounds) (a .held) (a .days .now) (a .lists .now) (a .buffer .now)
     ≡ walkFrom (a .bounds) (secondAt (a .frame) (a .days .now) (a .lists .now)) (a .frame .days * a .frame .times) (c .loop .at) (c .loop .buffer)
-whole c = c .before .before .days .inv .4 ∙ c .loop .inv .4
+whole c = begun (c .before .before .before .before .before .before .before .before) ∙ c .before .before .days .inv .4 ∙ c .loop .inv .4
 
 -- the place, by day and time; a candidate is there
-there : (c : tie.Then2 Inv-loop μ-loop Inv-days μ-days) →
+there : (c : tie.Then3 Inv-loop μ-loop Inv-days μ-days) →
     let l = c .before .before in
     let d = l .before .before in
-    l .loop .at .place ≡ d .days .day * d .before .before .before .before .before .before .before .args .frame .times + l .loop .time
+    l .loop .at .place ≡ d .days .day * d .before .before .before .before .before .before .before .before .before .before .args .frame .times + l .loop .time
 there c = let l = c .before .before in let d = l .before .before in omega (arith, l .loop .inv .2, d .days .inv .2)
 
-within : (c : tie.Then2 Inv-loop μ-loop Inv-days μ-days) →
+within : (c : tie.Then3 Inv-loop μ-loop Inv-days μ-days) →
     let l = c .before .before in
-    let a = l .before .before .before .before .before .before .before .before .before .args in
+    let a = l .before .before .before .before .before .before .before .before .before .before .before .before .args in
     l .loop .at .place < a .frame .days * a .frame .times
 within c =
     let l = c .before .before in
-    rw (there c) (within-days _ _ _ _ (l .before .days-test .taken) (c .if2 .taken))
+    rw (there c) (within-days _ _ _ _ (l .before .days-test .taken) (c .if3 .taken))
 
 -- a slot is free
-free : (c : tie.Else3 Inv-loop μ-loop Inv-days μ-days) →
+free : (c : tie.Else4 Inv-loop μ-loop Inv-days μ-days) →
     let l = c .before .before .before in
     l .loop .at .handed ≡ length (l .loop .buffer) → ⊥
-free c e = omega (arith, e, c .if3 .left)
+free c e = omega (arith, e, c .if4 .left)
 
 -- the candidate in hand, as the second that the code has
 in-hand : (c : tie.After-second-on Inv-loop μ-loop Inv-days μ-days) →
     let l = c .before .before .before .before in
-    let a = l .before .before .before .before .before .before .before .before .before .args in
+    let a = l .before .before .before .before .before .before .before .before .before .before .before .before .args in
     c .second-on .result ≡ secondAt (a .frame) (a .days .now) (a .lists .now) (l .loop .at .place)
 in-hand c =
     let t = c .before .before in
-    c .second-on .ensures ∙ second-there _ _ _ _ _ _ (there t) (t .if2 .taken)
+    c .second-on .ensures ∙ second-there _ _ _ _ _ _ (there t) (t .if3 .taken)
 
 -- it is not above UNTIL
-on-time : (c : tie.Else4 Inv-loop μ-loop Inv-days μ-days) →
+on-time : (c : tie.Else5 Inv-loop μ-loop Inv-days μ-days) →
     let k = c .before .before in
     let l = k .before .before .before .before in
-    let a = l .before .before .before .before .before .before .before .before .before .args in
+    let a = l .before .before .before .before .before .before .before .before .before .before .before .before .args in
     above (boundOf (a .bounds .until)) (k .second-on .result) ≡ false
-on-time c = sym (c .before .is-late .ensures) ∙ c .if4 .left
+on-time c = sym (c .before .is-late .ensures) ∙ c .if5 .left
 
 -- the buffer is short enough that neither count can wrap
 room : (c : tie.At-loop Inv-loop μ-loop Inv-days μ-days) → length (c .loop .buffer) * 8 < 2 ^ 63
 room c =
     let d = c .before .before in
-    rw (c .loop .inv .3 .3 ∙ d .days .inv .3 .3) (d .before .before .before .before .before .before .before .good .1 .1 .1 .1 .1 .0 .1)
+    rw (c .loop .inv .3 .3 ∙ d .days .inv .3 .3) (d .before .before .before .before .before .before .before .before .before .before .good .1 .1 .1 .1 .1 .0 .1)
 
 number-small : (c : tie.At-loop Inv-loop μ-loop Inv-days μ-days) → c .loop .at .number < 2 ^ 63
 number-small c =
     let d = c .before .before in
-    let p = d .before .before .before .before .before .before .before .pre .1 .number in
+    let p = ready (d .before .before .before .before .before .before) .number in
     omega (arith, room c, p, c .loop .inv .3, d .days .inv .3)
 
 handed-small : (c : tie.At-loop Inv-loop μ-loop Inv-days μ-days) → c .loop .at .handed < 2 ^ 63
 handed-small c = omega (arith, room c, c .loop .inv .3 .2)
 
+is-framed-requires : tie.Need-is-framed-requires Inv-loop μ-loop Inv-days μ-days
+is-framed-requires c κs = search needs
+
+is-ready-requires : tie.Need-is-ready-requires Inv-loop μ-loop Inv-days μ-days
+is-ready-requires c κs = search needs
+
 returns : tie.Need-returns Inv-loop μ-loop Inv-days μ-days
 returns c =
-    let a = c .before .before .before .args in
-    sym (rest-over _ _ _ _ _ (no-times _ _ (a .held .place) (c .if1 .taken)))
+    let a = c .before .before .before .before .args in
+    days-left _ _ _ _ _ _
+    (walkable-by (a .frame) (a .bounds) (a .held) (a .buffer .now) _ _ false
+    (c .before .before .is-framed .ensures) (c .before .is-ready .ensures) (not-true _ (c .if1 .taken)))
+
+returns-2 : tie.Need-returns-2 Inv-loop μ-loop Inv-days μ-days
+returns-2 c =
+    let a = c .before .before .before .before .before .before .args in
+    sym (begun (c .before .before) ∙ rest-over _ _ _ _ _ (no-times _ _ (a .held .place) (c .if2 .taken)))
 
 quotient-requires : tie.Need-quotient-requires Inv-loop μ-loop Inv-days μ-days
 quotient-requires c κs = search needs
 
 mul-time : tie.Need-mul-time Inv-loop μ-loop Inv-days μ-days
 mul-time c =
-    let a = c .before .before .before .before .before .args in
-    rw (c .before .quotient .ensures) (omega (arith, div-mul-le-self (a .held .place) (a .frame .times)))
+    let a = c .before .before .before .before .before .before .before .before .args in
+    let g = c .before .before .before .before .before .before .before .before .good .1 .1 .0 in
+    rw (c .before .quotient .ensures) (omega (arith, g, div-mul-le-self (a .held .place) (a .frame .times)))
 
 sub-time : tie.Need-sub-time Inv-loop μ-loop Inv-days μ-days
 sub-time c = rw (c .before .before .quotient .ensures) (div-mul-le-self _ _)
@@ -122,11 +164,11 @@ cast-day c = search needs
 days-holds : tie.Need-days-holds Inv-loop μ-loop Inv-days μ-days
 days-holds c =
     let q = c .before .before in
-    let a = q .before .before .before .before .args in (
+    let a = q .before .before .before .before .before .before .before .args in (
       refl,
-      rw (q .quotient .ensures) (time-left (a .frame .times) (a .held .place) (q .before .if1 .left)),
+      rw (q .quotient .ensures) (time-left (a .frame .times) (a .held .place) (q .before .if2 .left)),
       days-and-left (a .frame .times) (a .held .place) (q .quotient .result) (q .quotient .ensures),
-      (search needs, search needs, search needs, refl),
+      (search needs, search needs, ready (q .before .before .before) .handed, refl),
       refl,
     )
 
@@ -136,7 +178,7 @@ loop-holds c =
     (d .days .inv .0, search needs, refl, (search needs, refl, d .days .inv .3 .2, refl), refl)
 
 second-on-requires : tie.Need-second-on-requires Inv-loop μ-loop Inv-days μ-days
-second-on-requires c κs = search needs
+second-on-requires c κs = framed (c .before .before .before .before .before .before .before .before .before .before .before) .first
 
 is-late-requires : tie.Need-is-late-requires Inv-loop μ-loop Inv-days μ-days
 is-late-requires c κs = search needs
@@ -144,7 +186,7 @@ is-late-requires c κs = search needs
 add-at : tie.Need-add-at Inv-loop μ-loop Inv-days μ-days
 add-at c =
     let t = c .before .before .before .before .before in
-    let p = t .before .before .before .before .before .before .before .before .before .before .before .pre .0 in
+    let p = framed (t .before .before .before .before .before .before .before .before .before .before) in
     let h : t .before .before .loop .at .place < 2 ^ 31 = in-a-year _ _ _ (p .days) (p .times) (within t) in
     record { fits = omega (arith, h) }
 
@@ -165,13 +207,13 @@ loop-again c =
       (omega arith, omega arith, omega arith, l .loop .inv .3 .3),
       l .loop .inv .4
           ∙ rest-pass _ _ _ _ _ (within t) _ (in-hand k) (free (k .before))
-          (on-time (c .before .before .before)) (c .if5 .taken),
+          (on-time (c .before .before .before)) (c .if6 .taken),
     )
 
 sub-buffer : tie.Need-sub-buffer Inv-loop μ-loop Inv-days μ-days
 sub-buffer c =
     let l = c .before .before .before .before .before .before .before .before .before in
-    omega (arith, c .if5 .left, l .before .before .before .before .before .before .before .before .before .pre .1 .start)
+    omega (arith, c .if6 .left, ready (l .before .before .before .before .before .before .before .before) .start)
 
 mul-buffer : tie.Need-mul-buffer Inv-loop μ-loop Inv-days μ-days
 mul-buffer c = omega (arith, room (c .before .before .before .before .before .before .before .before .before))
@@ -203,8 +245,8 @@ loop-again-2 c =
       (omega arith, omega arith, simp length-set (omega arith), simp length-set (l .loop .inv .3 .3)),
       l .loop .inv .4
           ∙ rest-hand _ _ _ _ _ (within t) _ (in-hand k) (free (k .before))
-          (on-time (e .before .before .before)) (e .if5 .left)
-          (sym (c .before .is-reached .ensures) ∙ c .if6 .left),
+          (on-time (e .before .before .before)) (e .if6 .left)
+          (sym (c .before .is-reached .ensures) ∙ c .if7 .left),
     )
 
 add-day : tie.Need-add-day Inv-loop μ-loop Inv-days μ-days
@@ -217,10 +259,10 @@ days-again : tie.Need-days-again Inv-loop μ-loop Inv-days μ-days
 days-again c =
     let l = c .before .before in
     let d = l .before .before in
-    let a = d .before .before .before .before .before .before .before .args in (
+    let a = d .before .before .before .before .before .before .before .before .before .before .args in (
       l .loop .inv .0,
       omega (arith, d .days .inv .1),
-      rw (next-day (d .days .day) (a .frame .times)) (omega (arith, l .loop .inv .1, l .loop .inv .2, d .days .inv .2, c .if2 .left)),
+      rw (next-day (d .days .day) (a .frame .times)) (omega (arith, l .loop .inv .1, l .loop .inv .2, d .days .inv .2, c .if3 .left)),
       (
         omega (arith, l .loop .inv .3 .0, d .days .inv .3 .0),
         omega (arith, l .loop .inv .3 .1, d .days .inv .3 .1),
@@ -233,40 +275,41 @@ days-again c =
 same-length : tie.Need-same-length Inv-loop μ-loop Inv-days μ-days
 same-length c = search needs
 
-returns-2 : tie.Need-returns-2 Inv-loop μ-loop Inv-days μ-days
-returns-2 c =
+returns-3 : tie.Need-returns-3 Inv-loop μ-loop Inv-days μ-days
+returns-3 c =
     let d = c .before in
     sym
-    (d .days .inv .4
+    (begun (d .before .before .before .before .before .before)
+    ∙ d .days .inv .4
     ∙ rest-over _ _ _ _ _ (rw (d .days .inv .2) (past-days _ _ _ _ (c .days-test .left)))
     ∙ ap (λ (w : Why). stops w (d .days .at) (d .days .buffer)) (sym (d .days .inv .0)))
 
 same-length-2 : tie.Need-same-length-2 Inv-loop μ-loop Inv-days μ-days
 same-length-2 c = search needs
 
-returns-3 : tie.Need-returns-3 Inv-loop μ-loop Inv-days μ-days
-returns-3 c =
+returns-4 : tie.Need-returns-4 Inv-loop μ-loop Inv-days μ-days
+returns-4 c =
     let t = c .before in
     let l = t .before .before in
-    sym (whole l ∙ rest-full _ _ _ _ _ (within t) (c .if3 .taken))
+    sym (whole l ∙ rest-full _ _ _ _ _ (within t) (c .if4 .taken))
 
 same-length-3 : tie.Need-same-length-3 Inv-loop μ-loop Inv-days μ-days
 same-length-3 c = search needs
 
-returns-4 : tie.Need-returns-4 Inv-loop μ-loop Inv-days μ-days
-returns-4 c =
+returns-5 : tie.Need-returns-5 Inv-loop μ-loop Inv-days μ-days
+returns-5 c =
     let k = c .before .before in
     let t = k .before .before in
     let l = t .before .before in
-    sym (whole l ∙ rest-until _ _ _ _ _ (within t) _ (in-hand k) (free (k .before)) (sym (c .before .is-late .ensures) ∙ c .if4 .taken))
+    sym (whole l ∙ rest-until _ _ _ _ _ (within t) _ (in-hand k) (free (k .before)) (sym (c .before .is-late .ensures) ∙ c .if5 .taken))
 
 same-length-4 : tie.Need-same-length-4 Inv-loop μ-loop Inv-days μ-days
 same-length-4 c =
     let l = c .before .before .before .before .before .before .before .before .before .before .before .before .before in
     simp length-set (l .loop .inv .3 .3 ∙ l .before .before .days .inv .3 .3)
 
-returns-5 : tie.Need-returns-5 Inv-loop μ-loop Inv-days μ-days
-returns-5 c =
+returns-6 : tie.Need-returns-6 Inv-loop μ-loop Inv-days μ-days
+returns-6 c =
     let e = c .before .before .before .before in
     let k = e .before .before .before .before .before in
     let t = k .before .before in
@@ -274,8 +317,8 @@ returns-5 c =
     sym
     (whole l
     ∙ rest-count _ _ _ _ _ (within t) _ (in-hand k) (free (k .before))
-    (on-time (e .before .before .before)) (e .if5 .left)
-    (sym (c .before .is-reached .ensures) ∙ c .if6 .taken))
+    (on-time (e .before .before .before)) (e .if6 .left)
+    (sym (c .before .is-reached .ensures) ∙ c .if7 .taken))
 
 pub walk-days-spec : {M : Type 1} → statement M
 walk-days-spec =
@@ -285,7 +328,10 @@ walk-days-spec =
     μ-loop
     Inv-days
     μ-days
+    is-framed-requires
+    is-ready-requires
     returns
+    returns-2
     quotient-requires
     mul-time
     sub-time
@@ -310,10 +356,10 @@ walk-days-spec =
     days-less
     days-again
     same-length
-    returns-2
-    same-length-2
     returns-3
-    same-length-3
+    same-length-2
     returns-4
+    same-length-3
+    returns-5
     same-length-4
-    returns-5)
+    returns-6)
