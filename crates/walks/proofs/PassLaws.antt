@@ -24,10 +24,11 @@ by-test true f g = f refl
 by-test false f g = g refl
 
 -- a day on, the place still fits
-pub day-on-fits : (n d t p : ℕ) → n ≤ 373 → t ≤ 86400 → d < n → p ≡ d * t → Fits w32 (p + t)
+pub day-on-fits : (n d t p : ℕ) → n ≤ 373 → t < 131072 → d < n → p ≡ d * t → Fits w32 (p + t)
 day-on-fits n d t p a b h e =
     let c : d + 1 ≤ 373 = omega arith in
-    let m : (d + 1) * t ≤ 373 * 86400 = mul-le-mul c b in
+    let l : t ≤ 131072 = omega arith in
+    let m : (d + 1) * t ≤ 373 * 131072 = mul-le-mul c l in
     record { fits = omega (arith, next-day d t) }
 
 -- the place is at a day's beginning, by the quotient and by what is left
@@ -50,7 +51,7 @@ pub full-passes-none : (full : Bool) (f : Frame) (b : Bounds) (h : Held) (days :
 unfolding passedDays
 full-passes-none full f b h days t = rw (t, passedDays)
 
--- nor where no period has such a frame
+-- nor where a sum could wrap
 pub unframed-passes-none : (full : Bool) (f : Frame) (b : Bounds) (h : Held) (days : List ℕ) → full ≡ false → isFramed f ≡ false
     → h ≡ passedDays full f b h days
 unfolding passedDays

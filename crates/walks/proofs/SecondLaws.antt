@@ -48,9 +48,10 @@ past-days n d t j h =
 pub no-times : (n t j : ℕ) → t ≡ 0 → n * t ≤ j
 no-times n t j e = rw e (omega arith)
 
-pub in-a-year : (n t j : ℕ) → n ≤ 373 → t ≤ 86400 → j < n * t → j < 2 ^ 31
+pub in-a-year : (n t j : ℕ) → n ≤ 373 → t < 131072 → j < n * t → j < 2 ^ 31
 in-a-year n t j a b h =
-    let m : n * t ≤ 373 * 86400 = mul-le-mul a b in
+    let l : t ≤ 131072 = omega arith in
+    let m : n * t ≤ 373 * 131072 = mul-le-mul a l in
     omega arith
 
 -- the candidate at the place of day d and time t

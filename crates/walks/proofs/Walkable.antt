@@ -1,12 +1,13 @@
--- Where there is something to walk over: the tests in words, and what the walks then are.
+-- Where a walk may be: the tests in words, and what the walks then are.
 -- Assumes nothing.
-use Prim.Native.Nat.{ℕ, _*_, _≤_, _^_}
+use Prim.Native.Nat.{ℕ, _*_, _≤_, _<_, _^_}
 use mathlib.Core.Path.{_≡_}
 use mathlib.Core.Bool.{Bool, true, false, _&&_}
 use mathlib.Core.List.{List}
 use lib.ListN.{length}
-use lib.Dec.{leb}
-use borrow.Author.Tests.{leb-true, le-leb}
+use lib.Dec.{leb, ltb}
+use native.Mathlib.Omega.{arith}
+use borrow.Author.Tests.{leb-true, le-leb, ltb-true, lt-ltb}
 use Rattle.rule.proofs.FillLaws.{both}
 use Rattle.walks.specs.declared.rrule_iter.Why.{Why}
 use Rattle.walks.specs.declared.rrule_iter.Held.{Held}
@@ -15,34 +16,39 @@ use Rattle.walks.specs.declared.rrule_iter.Frame.{Frame}
 use Rattle.walks.specs.Walks.{walkedBy, isFramed, isReady, Framed, Ready, secondAt, secondChosen, walkFrom, isWalkable, daysWalk, placesWalk}
 use Rattle.walks.proofs.WalkLaws.{stops}
 
--- the tests in words, and back
-pub framed-told : (f : Frame) → isFramed f ≡ true → Framed f
+-- a frame that passes the test
+pub record Small (f : Frame) : Type 0 where
+  pub days : f .days ≤ 373
+  pub times : f .times < 131072
+  pub first : f .first < 4194304
+
+pub framed-told : (f : Frame) → isFramed f ≡ true → Small f
 unfolding isFramed
 framed-told f e =
     let p = both (leb (f .days) 373) _ e in
-    let q = both (leb (f .times) 86400) _ (p .1) in
-    record { days = leb-true _ _ (p .0); times = leb-true _ _ (q .0); first = leb-true _ _ (q .1) }
+    let q = both (ltb (f .times) 131072) _ (p .1) in
+    record { days = leb-true _ _ (p .0); times = ltb-true _ _ (q .0); first = ltb-true _ _ (q .1) }
 
 pub is-framed : (f : Frame) → Framed f → isFramed f ≡ true
 unfolding isFramed
-is-framed f w = rw (le-leb _ _ (w .days), le-leb _ _ (w .times), le-leb _ _ (w .first))
+is-framed f w = rw (le-leb _ _ (w .days), lt-ltb (f .times) 131072 (omega (arith, w .times)), lt-ltb (f .first) 4194304 (omega (arith, w .first)))
 
 pub ready-told : (b : Bounds) (h : Held) (buffer : List ℕ) → isReady b h (length buffer) ≡ true → Ready b h buffer
 unfolding isReady
 ready-told b h buffer e =
     let p = both (leb 62135596800 (b .start)) _ e in
     let q = both (leb (h .handed) (length buffer)) _ (p .1) in
-    record { start = leb-true _ _ (p .0); handed = leb-true _ _ (q .0); number = leb-true _ _ (q .1) }
+    record { start = leb-true _ _ (p .0); handed = leb-true _ _ (q .0); number = ltb-true _ _ (q .1) }
 
 pub is-ready : (b : Bounds) (h : Held) (buffer : List ℕ) → Ready b h buffer → isReady b h (length buffer) ≡ true
 unfolding isReady
-is-ready b h buffer w = rw (le-leb _ _ (w .start), le-leb _ _ (w .handed), le-leb _ _ (w .number))
+is-ready b h buffer w = rw (le-leb _ _ (w .start), le-leb _ _ (w .handed), lt-ltb _ _ (w .number))
 
 module _ (f : Frame) (b : Bounds) (h : Held) (buffer : List ℕ) where
   pub is-walkable : Framed f → Ready b h buffer → isWalkable f b h buffer ≡ true
   is-walkable v w = rw (is-framed f v, is-ready b h buffer w)
 
-  pub walkable-told : isWalkable f b h buffer ≡ true → Framed f × Ready b h buffer
+  pub walkable-told : isWalkable f b h buffer ≡ true → Small f × Ready b h buffer
   walkable-told e = let p = both (isFramed f) _ e in (framed-told f (p .0), ready-told b h buffer (p .1))
 
   -- the test as the code puts it together

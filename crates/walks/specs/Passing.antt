@@ -32,7 +32,7 @@ passable b f days d (suc n) = elim (isPassed b (lastOf f days d)) [
 abbrev pub heldAt : Held → ℕ → Held
 heldAt h place = record { k = h .k; place = place; number = h .number; moves = h .moves; handed = h .handed }
 
--- What a call holds when those days are passed. None is where no period has such a frame, the buffer is full, or the place is within a day.
+-- What a call holds when those days are passed. None is where the buffer is full, a sum could wrap, or the place is within a day.
 unfoldable pub passedDays : Bool → Frame → Bounds → Held → List ℕ → Held
 passedDays full f b h days = elim (not full && (isFramed f && eqb (h .place % f .times) 0)) [
   | true ↦ heldAt h (h .place + passable b f days (h .place / f .times) (f .days - h .place / f .times) * f .times)

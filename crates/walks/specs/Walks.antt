@@ -5,7 +5,7 @@ use mathlib.Core.Path.{_≡_}
 use mathlib.Core.Bool.{Bool, true, _&&_}
 use mathlib.Core.List.{List, [], _∷_}
 use lib.ListN.{length, getD}
-use lib.Dec.{leb}
+use lib.Dec.{leb, ltb}
 use Rattle.calendar.specs.Calendar.{if_then_else_}
 use Rattle.machine.specs.declared.Cause.{Cause}
 use Rattle.machine.specs.declared.State.{State}
@@ -66,23 +66,23 @@ abbrev pub Bytes : List ℕ → Type 0
 Bytes row = (i : ℕ) → getD row i 0 < 256
 
 -- a period's days and times keep to what a year and a day have, and its year begins by the last day of 9999
-unfoldable pub isFramed : Frame → Bool
-isFramed f = leb (f .days) 373 && (leb (f .times) 86400 && leb (f .first) 3652059)
-
--- A call is ready to walk: the start is not before 1970, the buffer has room for what was handed out, and the count of all is far from its limit.
-unfoldable pub isReady : Bounds → Held → (room : ℕ) → Bool
-isReady b h room = leb 62135596800 (b .start) && (leb (h .handed) room && leb (h .number) (2 ^ 62))
-
--- the same in words
 pub record Framed (f : Frame) : Type 0 where
   pub days : f .days ≤ 373
   pub times : f .times ≤ 86400
   pub first : f .first ≤ 3652059
 
+-- A call is ready to walk: the start is not before 1970, the buffer has room for what was handed out, and the count of all is far from its limit.
 pub record Ready (b : Bounds) (h : Held) (buffer : List ℕ) : Type 0 where
   pub start : 62135596800 ≤ b .start
   pub handed : h .handed ≤ length buffer
-  pub number : h .number ≤ 2 ^ 62
+  pub number : h .number < 2 ^ 63
+
+-- The same as tests. That of a frame is wider, and cheap: up to the next powers of two no sum wraps either.
+unfoldable pub isFramed : Frame → Bool
+isFramed f = leb (f .days) 373 && (ltb (f .times) 131072 && ltb (f .first) 4194304)
+
+unfoldable pub isReady : Bounds → Held → (room : ℕ) → Bool
+isReady b h room = leb 62135596800 (b .start) && (leb (h .handed) room && ltb (h .number) 9223372036854775808)
 
 -- time number t of day number d, as a second
 unfoldable pub secondOn : Frame → (days lists : List ℕ) → (d t : ℕ) → ℕ
@@ -107,12 +107,12 @@ tabled f i (suc n) = f i ∷ tabled f (i + 1) n
 unfoldable pub walkFrom : Bounds → (ℕ → ℕ) → ℕ → Held → List ℕ → compute.Walked ℕ
 walkFrom b f n h buffer = compute.walk (givenBy b) (tabled f (h .place) (n - h .place)) (nowOf State.Running h buffer)
 
--- whether there is anything to walk over: a frame that a period can have, and a call that is ready
+-- whether a walk may be: over such a frame, by a call that is ready
 abbrev pub isWalkable : Frame → Bounds → Held → List ℕ → Bool
 isWalkable f b h buffer = isFramed f && isReady b h (length buffer)
 
--- The walk over days and times, and the walk over the places of kept candidates, n of them. Where there is nothing to walk over, or more places
--- are told than there are, the walk comes through at once, and nothing changes.
+-- The walk over days and times, and the walk over the places of kept candidates, n of them. Where a walk may not be, or more places are told than
+-- there are, it comes through at once, and nothing changes.
 abbrev pub daysWalk : Frame → Bounds → Held → (days lists buffer : List ℕ) → compute.Walked ℕ
 daysWalk f b h days lists buffer =
     if isWalkable f b h buffer then walkFrom b (secondAt f days lists) (f .days * f .times) h buffer else compute.through (nowOf State.Running h buffer)

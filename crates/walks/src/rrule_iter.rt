@@ -93,7 +93,7 @@ fn quotient(number: u32, count: u32) -> u32
 
 // The first second of a day, which is told by its place in the list of days; past that list, of the year's first day.
 fn midnight_of(first: u64, days: &[u16], day: usize) -> u64
-    requires { ⌜ first ≤ 3652059 ⌝ }
+    requires { ⌜ first < 4194304 ⌝ }
     ensures is { λ r. ⌜ r ≡ (first + getD (now (days .entry)) day 0) * 86400 ⌝ }
     ensures small { λ r. ⌜ r < 2 ^ 40 ⌝ }
 {
@@ -115,7 +115,7 @@ fn nothing() {}
 
 // The time of this number on the day of this number, as a second.
 fn second_on(frame: Frame, days: &[u16; 373], lists: &[u8; 144], day: usize, time: u32) -> u64
-    requires { ⌜ frame .first ≤ 3652059 ⌝ }
+    requires { ⌜ frame .first < 4194304 ⌝ }
     ensures { λ r. ⌜ r ≡ secondOn frame (now (days .entry)) (now (lists .entry)) day time ⌝ }
 {
     holds_bytes(lists);
@@ -126,29 +126,29 @@ fn second_on(frame: Frame, days: &[u16; 373], lists: &[u8; 144], day: usize, tim
 
 // The candidate of this number, as a second.
 fn second_at(frame: Frame, days: &[u16; 373], lists: &[u8; 144], number: u32) -> u64
-    requires { ⌜ frame .first ≤ 3652059 ⌝ }
+    requires { ⌜ frame .first < 4194304 ⌝ }
     ensures { λ r. ⌜ r ≡ secondAt frame (now (days .entry)) (now (lists .entry)) number ⌝ }
 {
     let day = quotient(number, frame.times);
     second_on(frame, days, lists, day as usize, number - day * frame.times)
 }
 
-// Whether a frame is such as a period has: outside that, a sum could wrap.
+// Whether a frame is small enough that no sum wraps, as every period's is.
 fn is_framed(frame: Frame) -> bool
     ensures { λ r. ⌜ r ≡ isFramed frame ⌝ }
 {
-    (frame.days <= 373) & ((frame.times <= 86400) & (frame.first <= 3652059))
+    (frame.days <= 373) & ((frame.times < 131072) & (frame.first < 4194304))
 }
 
 // Whether a call is ready to walk, with so much room in the buffer.
 fn is_ready(bounds: Bounds, held: Held, room: usize) -> bool
     ensures { λ r. ⌜ r ≡ isReady bounds held room ⌝ }
 {
-    (62135596800 <= bounds.start) & ((held.handed <= room) & (held.number <= 4611686018427387904))
+    (62135596800 <= bounds.start) & ((held.handed <= room) & (held.number < 9223372036854775808))
 }
 
 // The walk over the days and their times, from the place on: each candidate is passed, and handed out if it is not before the start. A full
-// buffer, UNTIL and COUNT leave it from inside. What no period has, and a call that isn't ready, it leaves as they are.
+// buffer, UNTIL and COUNT leave it from inside. Where a sum could wrap, it does nothing.
 pub fn walk_days(
     frame: Frame,
     bounds: Bounds,
@@ -209,8 +209,8 @@ fn is_passed(bounds: Bounds, last: u64) -> bool
     !is_late(bounds, last)
 }
 
-// Passes the days from the place on that lie before the start, at one go; none where the buffer is full, or the place is within a day, or no
-// period has such a frame.
+// Passes the days from the place on that lie before the start, at one go; none where the buffer is full, the place is within a day, or a sum
+// could wrap.
 pub fn pass_days(full: bool, frame: Frame, bounds: Bounds, held: Held, days: &[u16; 373]) -> Held
     ensures { λ r. ⌜ r ≡ passedDays full frame bounds held (now (days .entry)) ⌝ }
 {

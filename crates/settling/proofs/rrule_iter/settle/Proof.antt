@@ -1,6 +1,7 @@
 -- `settling::rrule_iter::settle` meets its contract.
 -- Assumes nothing.
 use Rattle.settling.proofs.SettledLaws.{settled-full, settled-until, settled-count, settled-more, settled-limited, settled-moves}
+use native.Mathlib.Omega.{arith}
 use borrow.Author.Needs.{needs}
 use Rattle.settling.proofs.rrule_iter.settle.Statement.{statement}
 use Rattle.settling.proofs.rrule_iter.settle.Tie as tie
@@ -39,13 +40,13 @@ answer-requires-2 : tie.Need-answer-requires-2
 answer-requires-2 c κs = search needs
 
 returns-4 : tie.Need-returns-4
-returns-4 c = let a = c .before .before .before .before .before .before .args in settled-more (a .walked) (a .room) (a .m) _ (c .before .before .before .enum-told4 .given .1) (c .before .if1 .taken) (c .answer2 .ensures)
+returns-4 c = let a = c .before .before .before .before .before .before .args in settled-more (a .walked) (a .room) (a .m) _ (c .before .before .before .enum-told4 .given .1) (omega (arith, c .before .if1 .taken)) (c .answer2 .ensures)
 
 answer-requires-3 : tie.Need-answer-requires-3
 answer-requires-3 c κs = search needs
 
 returns-5 : tie.Need-returns-5
-returns-5 c = let a = c .before .before .before .before .before .before .before .before .args in settled-limited (a .walked) (a .room) (a .m) _ (c .before .before .before .before .before .enum-told4 .given .1) (c .before .before .before .if1 .left) (c .before .if2 .taken) (c .answer3 .ensures)
+returns-5 c = let a = c .before .before .before .before .before .before .before .before .args in settled-limited (a .walked) (a .room) (a .m) _ (c .before .before .before .before .before .enum-told4 .given .1) (c .before .before .before .if1 .left) (omega (arith, c .before .if2 .taken)) (c .answer3 .ensures)
 
 returns-6 : tie.Need-returns-6
 returns-6 c = let a = c .before .before .before .before .before .before .before .args in settled-moves (a .walked) (a .room) (a .m) (c .before .before .before .before .enum-told4 .given .1) (c .before .before .if1 .left) (c .if2 .left)

@@ -9,12 +9,12 @@ use native.Mathlib.Omega.{arith}
 use borrow.Author.Needs.{needs}
 use borrow.Author.Tests.{not-true, not-false}
 use Rattle.walks.specs.declared.rrule_iter.Held.{Held}
-use Rattle.walks.specs.Walks.{Framed, isFramed}
+use Rattle.walks.specs.Walks.{isFramed}
 use Rattle.walks.specs.Passing.{isPassed, lastOf, heldAt, passedDays}
 use Rattle.walks.proofs.SecondLaws.{next-day}
 use Rattle.walks.proofs.PassLaws.{day-on-fits, full-passes-none, unframed-passes-none, none-passed, days-passed}
 use Rattle.walks.proofs.PassLaws.{Leads, leads-on, leads-off, leads-over}
-use Rattle.walks.proofs.Walkable.{framed-told}
+use Rattle.walks.proofs.Walkable.{Small, framed-told}
 use Rattle.walks.proofs.rrule_iter.pass_days.Statement.{statement}
 use Rattle.walks.proofs.rrule_iter.pass_days.Tie as tie
 
@@ -26,12 +26,12 @@ Inv-loop full frame bounds days at₀ first-day day₀ day-end at day =
 abbrev μ-loop : tie.MeasureT-loop
 μ-loop full frame bounds days at₀ first-day day₀ day-end at day = frame .days - day
 
--- behind the guard the frame is such as a period has
+-- behind the guard no sum wraps
 framing : (c : tie.Else2 Inv-loop μ-loop) → isFramed (c .before .before .before .args .frame) ≡ true
 framing c = sym (c .before .is-framed .ensures) ∙ not-false _ (c .if2 .left)
 
-framed : (c : tie.Else2 Inv-loop μ-loop) → Framed (c .before .before .before .args .frame)
-framed c = framed-told _ (framing c)
+small : (c : tie.Else2 Inv-loop μ-loop) → Small (c .before .before .before .args .frame)
+small c = framed-told _ (framing c)
 
 -- whether the day in hand is passed
 passes : (c : tie.After-is-passed Inv-loop μ-loop) →
@@ -88,7 +88,7 @@ loop-holds : tie.Need-loop-holds Inv-loop μ-loop
 loop-holds c = (refl, sym (c .if3 .left), refl)
 
 midnight-of-requires : tie.Need-midnight-of-requires Inv-loop μ-loop
-midnight-of-requires c κs = framed (c .before .before .before .before .before .before .before) .first
+midnight-of-requires c κs = small (c .before .before .before .before .before .before .before) .first
 
 add-is-passed : tie.Need-add-is-passed Inv-loop μ-loop
 add-is-passed c = search needs
@@ -100,7 +100,7 @@ add-at : tie.Need-add-at Inv-loop μ-loop
 add-at c =
     let i = c .before .before .before .before .before .before in
     let l = i .before in
-    let p = framed (l .before .before .before .before .before) in
+    let p = small (l .before .before .before .before .before) in
     day-on-fits _ _ _ _ (p .days) (p .times) (i .loop-test .taken) (l .loop .inv .1)
 
 add-day : tie.Need-add-day Inv-loop μ-loop

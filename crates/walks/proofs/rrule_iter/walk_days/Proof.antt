@@ -12,10 +12,10 @@ use borrow.Author.Tests.{not-true, not-false}
 use Rattle.machine.specs.Given.{above}
 use Rattle.walks.specs.declared.rrule_iter.Why.{Why}
 use Rattle.walks.specs.declared.rrule_iter.Held.{Held}
-use Rattle.walks.specs.Walks.{boundOf, Framed, Ready, secondAt, walkFrom, isWalkable, daysWalk}
+use Rattle.walks.specs.Walks.{boundOf, Ready, secondAt, walkFrom, isWalkable, daysWalk}
 use Rattle.walks.proofs.SecondLaws.{time-left, days-and-left, next-day, within-days, past-days, no-times, in-a-year, second-there}
 use Rattle.walks.proofs.WalkLaws.{stops, rest-over, rest-full, rest-until, rest-pass, rest-count, rest-hand}
-use Rattle.walks.proofs.Walkable.{walkable-by, walkable-told, days-walked, days-left}
+use Rattle.walks.proofs.Walkable.{Small, walkable-by, walkable-told, days-walked, days-left}
 use Rattle.walks.proofs.rrule_iter.walk_days.Statement.{statement}
 use Rattle.walks.proofs.rrule_iter.walk_days.Tie as tie
 
@@ -42,7 +42,7 @@ Inv-days frame bounds days lists buffer₀ why₀ at₀ first-day time₀ day₀
 abbrev μ-days : tie.MeasureT-days
 μ-days frame bounds days lists buffer₀ why₀ at₀ first-day time₀ day₀ day-end buffer why at time day = frame .days - day
 
--- behind the guard there is something to walk over
+-- behind the guard a walk may be
 walkable : (c : tie.Else1 Inv-loop μ-loop Inv-days μ-days) →
     let a = c .before .before .before .before .args in
     isWalkable (a .frame) (a .bounds) (a .held) (a .buffer .now) ≡ true
@@ -51,8 +51,8 @@ walkable c =
     walkable-by (a .frame) (a .bounds) (a .held) (a .buffer .now) _ _ true
     (c .before .before .is-framed .ensures) (c .before .is-ready .ensures) (not-false _ (c .if1 .left))
 
-framed : (c : tie.Else1 Inv-loop μ-loop Inv-days μ-days) → Framed (c .before .before .before .before .args .frame)
-framed c =
+small : (c : tie.Else1 Inv-loop μ-loop Inv-days μ-days) → Small (c .before .before .before .before .args .frame)
+small c =
     let a = c .before .before .before .before .args in
     walkable-told (a .frame) (a .bounds) (a .held) (a .buffer .now) (walkable c) .0
 
@@ -119,7 +119,7 @@ room c =
     let d = c .before .before in
     rw (c .loop .inv .3 .3 ∙ d .days .inv .3 .3) (d .before .before .before .before .before .before .before .before .before .before .good .1 .1 .1 .1 .1 .0 .1)
 
-number-small : (c : tie.At-loop Inv-loop μ-loop Inv-days μ-days) → c .loop .at .number < 2 ^ 63
+number-small : (c : tie.At-loop Inv-loop μ-loop Inv-days μ-days) → c .loop .at .number + 1 < 2 ^ 64
 number-small c =
     let d = c .before .before in
     let p = ready (d .before .before .before .before .before .before) .number in
@@ -178,7 +178,7 @@ loop-holds c =
     (d .days .inv .0, search needs, refl, (search needs, refl, d .days .inv .3 .2, refl), refl)
 
 second-on-requires : tie.Need-second-on-requires Inv-loop μ-loop Inv-days μ-days
-second-on-requires c κs = framed (c .before .before .before .before .before .before .before .before .before .before .before) .first
+second-on-requires c κs = small (c .before .before .before .before .before .before .before .before .before .before .before) .first
 
 is-late-requires : tie.Need-is-late-requires Inv-loop μ-loop Inv-days μ-days
 is-late-requires c κs = search needs
@@ -186,7 +186,7 @@ is-late-requires c κs = search needs
 add-at : tie.Need-add-at Inv-loop μ-loop Inv-days μ-days
 add-at c =
     let t = c .before .before .before .before .before in
-    let p = framed (t .before .before .before .before .before .before .before .before .before .before) in
+    let p = small (t .before .before .before .before .before .before .before .before .before .before) in
     let h : t .before .before .loop .at .place < 2 ^ 31 = in-a-year _ _ _ (p .days) (p .times) (within t) in
     record { fits = omega (arith, h) }
 

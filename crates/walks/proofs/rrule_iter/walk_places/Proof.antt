@@ -12,10 +12,10 @@ use borrow.Author.Tests.{leb-true, not-true, not-false}
 use Rattle.machine.specs.Given.{above}
 use Rattle.rule.proofs.FillLaws.{both}
 use Rattle.walks.specs.declared.rrule_iter.Why.{Why}
-use Rattle.walks.specs.Walks.{boundOf, Framed, Ready, secondChosen, walkFrom, isWalkable, placesWalk}
+use Rattle.walks.specs.Walks.{boundOf, Ready, secondChosen, walkFrom, isWalkable, placesWalk}
 use Rattle.walks.proofs.SecondLaws.{second-chosen}
 use Rattle.walks.proofs.WalkLaws.{stops, rest-over, rest-full, rest-until, rest-pass, rest-count, rest-hand}
-use Rattle.walks.proofs.Walkable.{walkable-by, walkable-told, places-walked, places-left}
+use Rattle.walks.proofs.Walkable.{Small, walkable-by, walkable-told, places-walked, places-left}
 use Rattle.walks.proofs.rrule_iter.walk_places.Statement.{statement}
 use Rattle.walks.proofs.rrule_iter.walk_places.Tie as tie
 
@@ -28,7 +28,7 @@ Inv-loop frame bounds kept places days lists buffer₀ why₀ at₀ i₀ buffer 
 abbrev μ-loop : tie.MeasureT-loop
 μ-loop frame bounds kept places days lists buffer₀ why₀ at₀ i₀ buffer why at i = kept - i
 
--- behind the guard there is something to walk over, and no more places are told than there are
+-- behind the guard a walk may be, and no more places are told than there are
 few : (c : tie.Else1 Inv-loop μ-loop) → c .before .before .before .before .args .kept ≤ 732
 few c = leb-true _ _ (both (leb (c .before .before .before .before .args .kept) 732) _ (not-false _ (c .if1 .left)) .0)
 
@@ -40,8 +40,8 @@ walkable c =
     walkable-by (a .frame) (a .bounds) (a .held) (a .buffer .now) _ _ true (c .before .before .is-framed .ensures) (c .before .is-ready .ensures)
     (both (leb (a .kept) 732) _ (not-false _ (c .if1 .left)) .1)
 
-framed : (c : tie.Else1 Inv-loop μ-loop) → Framed (c .before .before .before .before .args .frame)
-framed c =
+small : (c : tie.Else1 Inv-loop μ-loop) → Small (c .before .before .before .before .args .frame)
+small c =
     let a = c .before .before .before .before .args in
     walkable-told (a .frame) (a .bounds) (a .held) (a .buffer .now) (walkable c) .0
 
@@ -82,10 +82,10 @@ on-time c = sym (c .before .is-late .ensures) ∙ c .if3 .left
 room : (c : tie.At-loop Inv-loop μ-loop) → length (c .loop .buffer) * 8 < 2 ^ 63
 room c = rw (c .loop .inv .5) (c .before .before .before .before .before .before .good .1 .1 .1 .1 .1 .1 .1 .0 .1)
 
-number-small : (c : tie.At-loop Inv-loop μ-loop) → c .loop .at .number < 2 ^ 63
+number-small : (c : tie.At-loop Inv-loop μ-loop) → c .loop .at .number + 1 < 2 ^ 64
 number-small c =
     let r : length (c .loop .buffer) * 8 < 2 ^ 63 = room c in
-    let p : c .before .before .before .before .before .before .args .held .number ≤ 2 ^ 62 = ready (c .before .before) .number in
+    let p : c .before .before .before .before .before .before .args .held .number < 2 ^ 63 = ready (c .before .before) .number in
     omega (arith, c .loop .inv .2, c .loop .inv .3, c .loop .inv .4)
 
 handed-small : (c : tie.At-loop Inv-loop μ-loop) → c .loop .at .handed < 2 ^ 63
@@ -117,7 +117,7 @@ element-copy-out-second-at : tie.Need-element-copy-out-second-at Inv-loop μ-loo
 element-copy-out-second-at c = omega (arith, few (c .before .before .before .before))
 
 second-at-requires : tie.Need-second-at-requires Inv-loop μ-loop
-second-at-requires c κs = framed (c .before .before .before .before .before) .first
+second-at-requires c κs = small (c .before .before .before .before .before) .first
 
 is-late-requires : tie.Need-is-late-requires Inv-loop μ-loop
 is-late-requires c κs = search needs
