@@ -1,57 +1,35 @@
-# Reads list.d/refusals, and with part=answer three lines: the words given to the program, the user's own, and the answer.
-# Writes the answer for people.
+# Reads a rule's words and the program's answer: INSTANTS.. : STOP moves=M handed=H cursor=C rest=R, or refused N.
+# Writes STOP M H C and the date of the cursor's period, or the answer as it is; then a line for each instant.
 
-BEGIN {
-    ending["count"] = "ended: COUNT is reached"
-    ending["interval"] = "ended: with INTERVAL 0 nothing is due"
-    ending["until"] = "ended: the next one would be after UNTIL"
-    ending["notick"] = "ended: the rule's steps never meet its hours, minutes and seconds"
-    ending["range"] = "ended: nothing more up to the end of 9999"
-    ending["more"] = "stopped: the room is full, and there may be more"
-    ending["limited"] = "stopped: the moves allowed are used up"
-}
-
-part != "answer" {
-    number = $1
-    sub(/^[0-9]+ /, "")
-    meaning[number] = $0
+NR == 1 {
+    interval = 1
+    for (i = 1; i <= NF; i++) read_word($i, index($i, "="))
     next
 }
-
-++lines_read == 1 { line = $0; next }
-lines_read == 2 { split($0, said, " "); next }
-$1 == "bad" { fail("can't take " what_is_bad($2), 2) }
-$1 == "refused" { fail("refused " $2 ": " meaning[$2], 1) }
-{ tell_instants(); tell_stop() }
-
-function fail(text, status) {
-    print "list: " text > "/dev/stderr"
-    exit status
+NF < 6 || $(NF - 5) != ":" { print; next }
+{
+    for (i = NF - 3; i < NF; i++) sub(/^[a-z]*=/, "", $i)
+    print $(NF - 4), $(NF - 3), $(NF - 2), $(NF - 1), date_reached($(NF - 1))
+    for (i = 1; i < NF - 5; i++) printf "%s  %s  %s\n", time_of_instant($i), weekday_of_instant($i), $i
 }
 
-# The program says where in its line the bad word begins. At the line's end a word is missing.
-function what_is_bad(place,    before) {
-    if (place >= 65536) return "a rule of more than 65,536 bytes"
-    if (place >= length(line)) return "a rule without " ((" " line) ~ / freq=/ ? "start=" : "freq=")
-    before = split(substr(line, 1, place), words_before, " ")
-    return "'" said[before + 1] "'"
+function read_word(word, at,    key) {
+    key = substr(word, 1, at - 1)
+    if (key == "freq") frequency = substr(word, at + 1)
+    if (key == "start") start = substr(word, at + 1)
+    if (key == "interval") interval = substr(word, at + 1)
+    if (key == "wkst") week_start = substr(word, at + 1)
 }
 
-function tell_instants(    i) {
-    for (i = 1; $i != ":"; i++) printf "%s  %s  %s\n", time_of_instant($i), weekday_of_instant($i), $i
-}
-
-# Behind the colon: STOP moves=M handed=H cursor=STATE,K,PLACE,NUMBER rest=R.
-function tell_stop(    stop, cursor, state, handed, moves) {
-    stop = $(NF - 4)
-    cursor = $(NF - 1)
-    state = cursor
-    sub(/^cursor=/, "", state)
-    sub(/,.*/, "", state)
-    moves = $(NF - 3)
-    sub(/^moves=/, "", moves)
-    handed = $(NF - 2)
-    sub(/^handed=/, "", handed)
-    printf "%s (%s due, %s)\n", ending[stop == "ended" ? state : stop], handed, moves == 1 ? "1 move" : moves " moves"
-    if (stop != "ended") print "to go on from here, add " cursor
+# The first day of period k: the start's period moved on by k times INTERVAL.
+function date_reached(cursor,    parts, steps, day, date, months) {
+    split(cursor, parts, ",")
+    steps = parts[2] * interval
+    day = int(start / 86400)
+    if (frequency > 3) return date_of_day(int((start + steps * (frequency == 4 ? 3600 : frequency == 5 ? 60 : 1)) / 86400))
+    if (frequency == 3) return date_of_day(day + steps)
+    if (frequency == 2) return date_of_day(steps == 0 ? day : day - (day + 3 + 7 - week_start) % 7 + 7 * steps)
+    date = date_of_day(day)
+    months = 12 * substr(date, 1, 4) + substr(date, 6, 2) - 1 + steps * (frequency == 0 ? 12 : 1)
+    return sprintf("%04d-%02d-01", int(months / 12), frequency == 0 ? 1 : months % 12 + 1)
 }
