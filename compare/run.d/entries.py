@@ -1,12 +1,16 @@
 """A named rule for each entry of docs/DIFFERENCES.md under "From the Rust": when it applies, and what it explains."""
 import re
+from dataclasses import dataclass
+from functools import cached_property
 
-from listings import DAY, ENDED, GAVE_UP, LAST, first_difference, model, rust_listing
-from programs import COMPARE
+from listings import DAY, ENDED, GAVE_UP, LAST, Listing, first_difference, model, rust_listing
+from moves import CARRIED, NEVER_MET, SKIPPED, wrong_moves
+from programs import COMPARE, SLOW
 
 YEARLY, MONTHLY, WEEKLY, DAILY, HOURLY, MINUTELY, SECONDLY = range(7)
 
 CARRY = "MINUTELY and SECONDLY leave the grid when a carry meets a list"
+EARLY_END = "MINUTELY and SECONDLY end early when a carry never meets a list"
 SKIPPED_DAY = "MINUTELY and SECONDLY with a time list lose days when a day is skipped"
 JANUARY = "The first days of January get the wrong week number"
 DECEMBER = "The last days of December have no week number from the end"
@@ -31,72 +35,112 @@ UNTIL_BEFORE = "UNTIL before the start"
 OUT_OF_RANGE = "Starts and UNTIL out of range"
 
 
-# Where both list, and list otherwise. Each rule asks for the shape of the rule and the place of the first difference.
+# Where both list, and list otherwise. Each rule works out whether the Rust goes wrong at the first difference as the entry says.
 
-def steps_fit(interval):
-    """Whether so many minutes, carried into hours, stay on their grid when hours are added."""
-    return 60 % interval == 0 or interval % 60 == 0
+@dataclass
+class Case:
+    """Two listings of a rule, and their first difference."""
+    rule: model.Rule
+    ours: Listing
+    theirs: Listing
+    difference: int
+
+    @cached_property
+    def wrong_moves(self):
+        return wrong_moves(self.rule, self.theirs, self.difference) if self.rule.freq in (MINUTELY, SECONDLY) else set()
 
 
-def carry(rule, ours, theirs, difference):
-    if rule.freq == MINUTELY:
-        return rule.byhour != [] and not steps_fit(rule.interval)
-    if rule.freq != SECONDLY or not (rule.byhour or rule.byminute):
+def weeks_of_last_year(year, wkst):
+    """As yearinfo.rs counts the weeks of the year before."""
+    before, new_year = (model.weekday(model.first_day(y)) for y in (year - 1, year))
+    if (wkst - before) % 7 >= 4:
+        days = model.year_length(year - 1) + (before - wkst) % 7
+    else:
+        days = model.year_length(year) - (wkst - new_year) % 7
+    return 52 + days % 7 // 4
+
+
+def january_numbers(day, wkst):
+    """The Rust's week numbers of a day of January whose week is the last of the year before; else ours."""
+    numbers = model.week_number(day, wkst)
+    is_last = model.month_and_month_day(day)[0] == 1 and numbers[0] > 50
+    return (weeks_of_last_year(model.year_of(day), wkst), -1) if is_last else numbers
+
+
+def december_numbers(day, wkst):
+    """The Rust's week numbers of a day of December whose week is the first of the next year; else ours."""
+    numbers = model.week_number(day, wkst)
+    is_first = model.month_and_month_day(day)[0] == 12 and numbers[0] == 1
+    return (1,) if is_first else numbers
+
+
+def misnumbered(case, rust_numbers):
+    """Whether BYWEEKNO answers otherwise by the Rust's numbers: of the difference's day, or with BYSETPOS of a day of its year."""
+    rule, day = case.rule, case.difference // DAY
+    if rule.freq != YEARLY:
         return False
-    if rule.interval % 60 == 0:
-        return rule.byhour != [] and not steps_fit(rule.interval // 60)
-    return 60 % rule.interval != 0
+    year = model.year_of(day)
+    days = range(model.first_day(year), model.first_day(year + 1)) if rule.bysetpos else [day]
+    both = ((model.week_number(d, rule.wkst), rust_numbers(d, rule.wkst)) for d in days)
+    return any(model.meets(rule.byweekno, numbers) != model.meets(rule.byweekno, rusts) for numbers, rusts in both)
 
 
-def skipped_day(rule, ours, theirs, difference):
-    day_list = rule.bymonth or rule.bymonthday or rule.byyearday or rule.byweekno or rule.byday
-    time_list = rule.byhour or rule.byminute or (rule.freq == SECONDLY and rule.bysecond)
-    return rule.freq in (MINUTELY, SECONDLY) and bool(day_list) and bool(time_list)
+def months_of(instant):
+    """The month of an instant, counted from year 0."""
+    day = instant // DAY
+    return 12 * model.year_of(day) + model.month_and_month_day(day)[0] - 1
 
 
-def month_and_day(instant):
-    return model.month_and_month_day(instant // DAY)
+def last_month(rule):
+    """The first month visited whose number and INTERVAL are above 65535 together, or one after 9999."""
+    months = months_of(rule.start)
+    while months % 12 + 1 + rule.interval <= 65535 and months < 120000:
+        months += rule.interval
+    return months
 
 
-def january(rule, ours, theirs, difference):
-    asked = rule.freq == YEARLY and (52 in rule.byweekno or 53 in rule.byweekno) and -1 not in rule.byweekno
-    return asked and (rule.bysetpos != [] or month_and_day(difference) in ((1, 1), (1, 2), (1, 3)))
+def month(case):
+    """The Rust's listing ends with that month, and is a beginning of ours."""
+    begins = case.theirs.instants == case.ours.instants[:len(case.theirs.instants)]
+    is_near = case.rule.freq == MONTHLY and case.rule.interval + 12 > 65535
+    return is_near and case.theirs.stop == ENDED and begins and months_of(case.difference) > last_month(case.rule)
 
 
-def december(rule, ours, theirs, difference):
-    asked = rule.freq == YEARLY and (-52 in rule.byweekno or -53 in rule.byweekno)
-    return asked and (rule.bysetpos != [] or month_and_day(difference) in ((12, 29), (12, 30), (12, 31)))
+def last_week(case):
+    begin = model.week_begin(model.LAST_DAY, case.rule.wkst)
+    is_cut = begin + 6 > model.LAST_DAY
+    return case.rule.freq == WEEKLY and case.rule.bysetpos != [] and is_cut and case.difference // DAY >= begin
 
 
-def month(rule, ours, theirs, difference):
-    """The Rust's listing ends, and is a beginning of ours."""
-    begins = theirs.instants == ours.instants[:len(theirs.instants)]
-    return rule.freq == MONTHLY and rule.interval + 12 > 65535 and theirs.stop == ENDED and begins
-
-
-def last_week(rule, ours, theirs, difference):
-    in_it = difference // DAY >= model.week_begin(model.LAST_DAY, rule.wkst)
-    return rule.freq == WEEKLY and rule.bysetpos != [] and in_it
-
-
-# entry: its rule, and the places in the Rust that compare/differences.d/explain can mend. A skipped day is lost in
-# the jump to the day's end, or in the carry of that jump.
+# entry: its rule, and the places in the Rust that compare/differences.d/explain can mend. After one wrong move others follow, so
+# the moves below DAILY are mended as a whole.
+MOVES = {"carry", "skipped-day"}
 LISTED_OTHERWISE = {
-    CARRY: (carry, {"carry"}), SKIPPED_DAY: (skipped_day, {"carry", "skipped-day"}), JANUARY: (january, {"last-year"}),
-    DECEMBER: (december, {"from-the-end"}), MONTH: (month, {"month"}), LAST_WEEK: (last_week, {"last-week"}),
+    CARRY: (lambda case: CARRIED in case.wrong_moves, MOVES),
+    EARLY_END: (lambda case: NEVER_MET in case.wrong_moves, MOVES),
+    SKIPPED_DAY: (lambda case: SKIPPED in case.wrong_moves, MOVES),
+    JANUARY: (lambda case: misnumbered(case, january_numbers), {"last-year"}),
+    DECEMBER: (lambda case: misnumbered(case, december_numbers), {"from-the-end"}),
+    MONTH: (month, {"month"}),
+    LAST_WEEK: (last_week, {"last-week"}),
 }
 
 
-def off_the_grid(rule, instant):
-    unit = model.UNITS[rule.freq]
-    return (instant // unit - rule.start // unit) % rule.interval != 0
+def may_go_wrong(rule):
+    """Whether the rule has the parts that one of these entries needs."""
+    has_times = rule.byhour or rule.byminute or rule.freq == SECONDLY and rule.bysecond
+    parts = {
+        YEARLY: rule.byweekno != [], MONTHLY: rule.interval + 12 > 65535, WEEKLY: rule.bysetpos != [],
+        MINUTELY: bool(has_times), SECONDLY: bool(has_times),
+    }
+    return parts.get(rule.freq, False)
 
 
 def places(entries):
     return frozenset().union(*(LISTED_OTHERWISE[entry][1] for entry in entries))
 
 
-INSTANTS_FROM_A_DIFFERENCE = 4
+SECONDS_WHERE_IT_AGREES = 2
 
 
 class Explainer:
@@ -104,30 +148,35 @@ class Explainer:
 
     def __init__(self, mended):
         self.mended = mended
-        self.both_ways = 0
+        self.mended_too = self.both_ways = 0
 
     def mended_listing(self, pair, difference, entries):
         """What the Rust lists, mended in the places of these entries; nothing where that stops before the difference."""
-        line = pair.rust_line
-        if not pair.deep:
-            before = sum(instant < difference for instant in pair.ours.instants)
-            line += f" max={before + INSTANTS_FROM_A_DIFFERENCE}"
         for words in ("", " limited=0"):
-            listing = rust_listing(pair.rule, self.mended.ask(line + words, places(entries)))
+            listing = rust_listing(pair.rule, self.mended.ask(pair.rust_line + words, places(entries)))
             if listing is None or listing.last >= difference:
                 return listing
         return None
 
-    def mends(self, pair, entries):
-        listing = self.mended_listing(pair, pair.difference, entries)
-        return listing is not None and first_difference(pair.ours, listing) is None
+    def agrees_mended(self, pair):
+        """Where the two agree: whether the Rust, mended in every place, does too. Else we share an error of the Rust's.
+
+        Mended it looks at more times in each round. Where it gives up it may take too long for that, and isn't waited for.
+        """
+        if not may_go_wrong(pair.rule):
+            return True
+        answer = self.mended.ask(pair.rust_line, places(LISTED_OTHERWISE), SECONDS_WHERE_IT_AGREES)
+        if answer == SLOW:
+            return True
+        self.mended_too += 1
+        return first_difference(pair.ours, rust_listing(pair.rule, answer)) is None
 
     def needed(self, pair):
         """The entries that explain the first difference, then the next that is left, until none is; or nothing."""
         found, theirs, difference = [], pair.theirs, pair.difference
         while difference is not None:
-            rules = LISTED_OTHERWISE.items()
-            new = [e for e, (applies, _) in rules if e not in found and applies(pair.rule, pair.ours, theirs, difference)]
+            case = Case(pair.rule, pair.ours, theirs, difference)
+            new = [e for e, (applies, _) in LISTED_OTHERWISE.items() if e not in found and applies(case)]
             if not new:
                 return None
             found += new
@@ -147,12 +196,7 @@ class Explainer:
     def entries(self, pair):
         """The entries that explain how two listings differ; none where they don't."""
         found = self.needed(pair)
-        if not found or not self.alone(pair, found):
-            return []
-        if CARRY in found and SKIPPED_DAY in found:
-            strays = pair.difference in pair.theirs.instants and off_the_grid(pair.rule, pair.difference)
-            return [CARRY if strays else SKIPPED_DAY]
-        return next(([e] for e in found if len(found) > 1 and self.mends(pair, [e])), found)
+        return found if found and self.alone(pair, found) else []
 
 
 # Where the Rust gives up. It has looked at 99,999 periods without an instant: exact where each k is a round.
@@ -289,7 +333,19 @@ def named_entries():
     return own | LISTED_OTHERWISE.keys() | REFUSED_BY_THE_RUST.keys() | READ_OTHERWISE.keys()
 
 
-def page_entries():
+def page_sections():
+    """The text under each entry of the page."""
     page = (COMPARE.parent / "docs" / "DIFFERENCES.md").read_text()
     page = page.partition("## From the Rust")[2].partition("## From the RFC")[0]
-    return set(re.findall(r"^#### (.*)$", page, re.MULTILINE))
+    _, *parts = re.split(r"^#+ (.*)$", page, flags=re.MULTILINE)
+    headings = re.findall(r"^#### (.*)$", page, re.MULTILINE)
+    return {heading: text for heading, text in zip(parts[::2], parts[1::2]) if heading in headings}
+
+
+def page_entries():
+    return set(page_sections())
+
+
+def page_rules(entry):
+    """The rules of an entry's blocks, without their room."""
+    return re.findall(r"^read  (.*?)(?: room=\d+)?$", page_sections()[entry], re.MULTILINE)

@@ -13,6 +13,7 @@ FREQUENCIES = ("YEARLY", "MONTHLY", "WEEKLY", "DAILY", "HOURLY", "MINUTELY", "SE
 MODEL_ONE_IN = 500  # of the rules on which the two agree
 MODEL_OF_AN_ENTRY = 50
 PUBLIC_OF_A_RUN = 100
+MODEL_ALONE = "the model alone lists otherwise"
 
 
 class Pair:
@@ -110,8 +111,10 @@ class Judge:
         self.count_parts(pair)
         if pair.difference is not None:
             return self.judge_difference(pair, counted)
+        if not self.explainer.agrees_mended(pair):
+            return self.wrong(pair, "we list what the Rust lists, and it goes wrong")
         if not self.model_agrees(pair, self.total % MODEL_ONE_IN == 0, "agreeing"):
-            return self.wrong(pair, "the model lists otherwise")
+            return self.wrong(pair, MODEL_ALONE)
         if counted:
             self.count_agreeing(pair)
         return True
@@ -152,7 +155,7 @@ class Judge:
         if not found:
             return self.wrong(pair, "no entry explains it")
         if not self.model_agrees(pair, any(self.with_model[entry] < MODEL_OF_AN_ENTRY for entry in found), found[0]):
-            return self.wrong(pair, "the model lists otherwise")
+            return self.wrong(pair, MODEL_ALONE)
         self.explained.update(found)
         if counted:
             self.count(pair, "listed otherwise, as an entry says")
@@ -183,6 +186,9 @@ class Judge:
         held, agreeing = sum(self.with_model.values()), self.with_model["agreeing"]
         print(f"{held:8}  of our answers held against the model, {agreeing} where the two agree")
         print(f"{self.explainer.both_ways:8}  of the differing listings held against the Rust mended in every other place")
+        print(f"{self.explainer.mended_too:8}  of the agreeing listings held against the Rust mended in every place")
         print(f"{len(self.unlisted):8}  disagreements that no entry explains")
+        for why, number in Counter(why for _, why, _, _ in self.unlisted).items():
+            print(f"{number:8}  of these: {why}")
         for line, why, ours, theirs in sorted(self.unlisted, key=lambda w: (len(w[0].split()), len(w[0])))[:20]:
             print(f"{line}\n  why   {why}\n  ours  {' | '.join(ours)[:400]}\n  Rust  {theirs[:400]}")

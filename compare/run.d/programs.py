@@ -78,11 +78,11 @@ class Mended:
         environment = {**os.environ, "MENDED": " ".join(sorted(places))}
         return subprocess.Popen([self.path], stdin=subprocess.PIPE, stdout=subprocess.PIPE, text=True, env=environment)
 
-    def ask(self, line, places):
+    def ask(self, line, places, seconds=SECONDS_FOR_A_LINE):
         process = self.processes.pop(places, None) or self.start(places)
         process.stdin.write(line + "\n")
         process.stdin.flush()
-        if not select.select([process.stdout], [], [], SECONDS_FOR_A_LINE)[0]:
+        if not select.select([process.stdout], [], [], seconds)[0]:
             process.kill()
             process.communicate()
             return SLOW
