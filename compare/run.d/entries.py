@@ -50,6 +50,20 @@ class Case:
         return wrong_moves(self.rule, self.theirs, self.difference) if self.rule.freq in (MINUTELY, SECONDLY) else set()
 
 
+def never_met(at, carry, size, entries):
+    """Whether adding a carry again and again meets no entry of a list."""
+    return carry > 0 and entries != [] and not any((at + n * carry) % size in entries for n in range(1, size + 1))
+
+
+def first_carry_never_meets(rule):
+    """The early end's condition in the page's words."""
+    hour, minute, second = rule.start // 3600 % 24, rule.start // 60 % 60, rule.start % 60
+    minutes = rule.interval if rule.freq == MINUTELY else (second + rule.interval) // 60
+    hours = (minute + minutes) // 60
+    in_minutes = rule.freq == SECONDLY and never_met(minute, minutes, 60, rule.byminute)
+    return in_minutes or never_met(hour, hours, 24, rule.byhour)
+
+
 def weeks_of_last_year(year, wkst):
     """As yearinfo.rs counts the weeks of the year before."""
     before, new_year = (model.weekday(model.first_day(y)) for y in (year - 1, year))
@@ -117,7 +131,7 @@ def last_week(case):
 MOVES = {"carry", "skipped-day"}
 LISTED_OTHERWISE = {
     CARRY: (lambda case: CARRIED in case.wrong_moves, MOVES),
-    EARLY_END: (lambda case: NEVER_MET in case.wrong_moves, MOVES),
+    EARLY_END: (lambda case: NEVER_MET in case.wrong_moves and first_carry_never_meets(case.rule), MOVES),
     SKIPPED_DAY: (lambda case: SKIPPED in case.wrong_moves, MOVES),
     JANUARY: (lambda case: misnumbered(case, january_numbers), {"last-year"}),
     DECEMBER: (lambda case: misnumbered(case, december_numbers), {"from-the-end"}),
@@ -148,7 +162,7 @@ class Explainer:
 
     def __init__(self, mended):
         self.mended = mended
-        self.mended_too = self.both_ways = 0
+        self.mended_too = self.not_waited_for = self.both_ways = 0
 
     def mended_listing(self, pair, difference, entries):
         """What the Rust lists, mended in the places of these entries; nothing where that stops before the difference."""
@@ -167,6 +181,7 @@ class Explainer:
             return True
         answer = self.mended.ask(pair.rust_line, places(LISTED_OTHERWISE), SECONDS_WHERE_IT_AGREES)
         if answer == SLOW:
+            self.not_waited_for += 1
             return True
         self.mended_too += 1
         return first_difference(pair.ours, rust_listing(pair.rule, answer)) is None

@@ -186,7 +186,8 @@ class Judge:
         held, agreeing = sum(self.with_model.values()), self.with_model["agreeing"]
         print(f"{held:8}  of our answers held against the model, {agreeing} where the two agree")
         print(f"{self.explainer.both_ways:8}  of the differing listings held against the Rust mended in every other place")
-        print(f"{self.explainer.mended_too:8}  of the agreeing listings held against the Rust mended in every place")
+        mended_too, not_waited_for = self.explainer.mended_too, self.explainer.not_waited_for
+        print(f"{mended_too:8}  of the agreeing listings held against the Rust mended in every place; {not_waited_for} more took too long")
         print(f"{len(self.unlisted):8}  disagreements that no entry explains")
         for why, number in Counter(why for _, why, _, _ in self.unlisted).items():
             print(f"{number:8}  of these: {why}")
