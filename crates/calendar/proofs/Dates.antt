@@ -9,9 +9,9 @@ use native.Mathlib.Nat.{add-sub-cancel}
 use lib.Dec.{leb, ltb}
 use borrow.Author.Tests.{le-leb, ltb-true}
 use Rattle.calendar.specs.declared.utils.Date.{Date}
-use Rattle.calendar.specs.Calendar.{if_then_else_, leap, daysOf, newYear, yearOf, monthLength, daysBeforeMonth, firstOf, dayOfDate, MonthDay, noDay, monthDayOf, fromEnd, tableDay, dateIn, yearDay, dateOf}
+use Rattle.calendar.specs.Calendar.{if_then_else_, leap, daysOf, newYear, yearOf, monthLength, daysBeforeMonth, firstOf, dayOfDate, MonthDay, noDay, monthDayOf, fromEnd, tableDay, tab, dateIn, yearDay, dateOf}
 use Rattle.calendar.specs.Claims.{InPlace, IsDate, DateIs, DayOfItsDate, DateOfItsDay}
-use Rattle.calendar.proofs.Table.{tab, same-below}
+use Rattle.calendar.proofs.Table.{same-below}
 use Rattle.calendar.proofs.Years.{place-is, one-place}
 use Rattle.calendar.proofs.Months.{month-day-is, at-most-31, in-year}
 

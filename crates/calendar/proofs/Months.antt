@@ -2,19 +2,18 @@
 -- Assumes nothing.
 use mathlib.Core.Path.{_≡_, refl, sym, _∙_, ap}
 use mathlib.Core.Bool.{Bool, true, false, _&&_}
-use Prim.Native.Nat.{ℕ, zero, suc, _+_, _-_, _*_, _/_, _≤_, _<_, min}
+use Prim.Native.Nat.{ℕ, zero, suc, _+_, _-_, _≤_, _<_, min}
 use native.Mathlib.Omega.{arith}
 use native.Mathlib.Nat.{mod-eq-of-lt}
 use native.Mathlib.Decide.{decLe}
 use mathlib.Core.List.{_∷_}
-use lib.ListN.{take, List·getD-eq-default}
+use lib.ListN.{getD, take, List·getD-eq-default}
 use lib.Seq.{take-all}
 use lib.Dec.{eqb, leb}
 use borrow.Author.Tests.{eqb-true, leb-true, le-ltb, lt-ltb}
-use Rattle.calendar.specs.Calendar.{if_then_else_, leap, daysOf, newYear, monthLengths, monthLength, total, daysBeforeMonth, firstOf, MonthDay, monthDayOf, noDay, dayInMonth, dayBetween, tableDay}
-use Rattle.calendar.specs.declared.masks.DayInMonth.{DayInMonth}
+use Rattle.calendar.specs.Calendar.{if_then_else_, leap, daysOf, newYear, monthLengths, monthLength, total, daysBeforeMonth, firstOf, MonthDay, monthDayOf, noDay, tableDay, yearTable}
 use Rattle.calendar.specs.Claims.{MonthsFollow, DecemberEnds}
-use Rattle.calendar.proofs.Table.{tab, same-below, same-from}
+use Rattle.calendar.proofs.Table.{tab-at, same-below}
 use Rattle.calendar.proofs.Years.{years-follow}
 
 pub next-month : (long : Bool) (m : ℕ) → m ≤ 12 → daysBeforeMonth long (m + 1) ≡ daysBeforeMonth long m + monthLength long m
@@ -104,55 +103,7 @@ pub in-year : (long : Bool) (n : ℕ) → n < daysOf long → tableDay long n �
 unfolding tableDay
 in-year long n h = rw (lt-ltb n (daysOf long + 7) (omega arith), mod-eq-of-lt h, tableDay)
 
--- ---- the day at a place, reckoned from 1 March
-
--- the day at a place of a month that lies between two places
-abbrev pub inMonth : (month place from to : ℕ) → MonthDay
-inMonth month place from to = record { month = month; day = place - from + 1; length = to - from }
-
--- so many days after 1 March: from there on, five months in a row have 153 days
-abbrev pub sinceMarch : ℕ → MonthDay
-sinceMarch k = inMonth ((5 * k + 2) / 153 + 3) k ((153 * ((5 * k + 2) / 153) + 2) / 5) ((153 * ((5 * k + 2) / 153) + 155) / 5)
-
--- a function that has the table's values on a range of its places says what the table says there
-by-range : (long : Bool) (f : ℕ → MonthDay) (i n : ℕ) → tab f i n ≡ tab (tableDay long) i n → (k : ℕ) → i ≤ k → k < i + n → f k ≡ tableDay long k
-by-range long f i n e k l h = let z : i + (k - i) ≡ k = omega arith in ap f (sym z) ∙ same-from f (tableDay long) noDay i n e (k - i) (omega arith) ∙ ap (tableDay long) z
-
-pub january : (long : Bool) (n : ℕ) → n < 31 → inMonth 1 n 0 31 ≡ tableDay long n
-unfolding tableDay
-january true n h = by-range true (λ (n : ℕ). inMonth 1 n 0 31) 0 31 refl n (omega arith) (omega arith)
-january false n h = by-range false (λ (n : ℕ). inMonth 1 n 0 31) 0 31 refl n (omega arith) (omega arith)
-
-pub february : (long : Bool) (n : ℕ) → 31 ≤ n → n < daysBeforeMonth long 3 → inMonth 2 n 31 (daysBeforeMonth long 3) ≡ tableDay long n
-unfolding tableDay daysBeforeMonth
-february true n l h = by-range true (λ (n : ℕ). inMonth 2 n 31 60) 31 29 refl n l (omega arith)
-february false n l h = by-range false (λ (n : ℕ). inMonth 2 n 31 59) 31 28 refl n l (omega arith)
-
-pub from-march : (long : Bool) (n : ℕ) → daysBeforeMonth long 3 ≤ n → n - daysBeforeMonth long 3 < 306 → sinceMarch (n - daysBeforeMonth long 3) ≡ tableDay long n
-unfolding tableDay daysBeforeMonth
-from-march true n l h = by-range true (λ (n : ℕ). sinceMarch (n - 60)) 60 306 refl n l (omega arith)
-from-march false n l h = by-range false (λ (n : ℕ). sinceMarch (n - 59)) 59 306 refl n l (omega arith)
-
-pub next-january : (long : Bool) (n : ℕ) → daysBeforeMonth long 3 ≤ n → 306 ≤ n - daysBeforeMonth long 3 → n - daysBeforeMonth long 3 < 313
-    → inMonth 1 (n - daysBeforeMonth long 3) 306 337 ≡ tableDay long n
-unfolding tableDay daysBeforeMonth
-next-january true n m l h = by-range true (λ (n : ℕ). inMonth 1 (n - 60) 306 337) 366 7 refl n (omega arith) (omega arith)
-next-january false n m l h = by-range false (λ (n : ℕ). inMonth 1 (n - 59) 306 337) 365 7 refl n (omega arith) (omega arith)
-
--- March begins on the 59th or 60th day after 1 January
-pub march-is : (long : Bool) → (59 ≤ daysBeforeMonth long 3) × (daysBeforeMonth long 3 ≤ 60)
-unfolding daysBeforeMonth
-march-is true = (omega arith, omega arith)
-march-is false = (omega arith, omega arith)
-
-pub tables-end : (long : Bool) → daysBeforeMonth long 3 + 313 ≡ daysOf long + 7
-unfolding daysBeforeMonth
-tables-end true = refl
-tables-end false = refl
-
--- its day in the month, and that from the month's end
-pub day-in-month : (month place from to : ℕ) → from ≤ place → dayBetween place from to ≡ dayInMonth (inMonth month place from to)
-day-in-month month place from to h = ap (λ (left : ℕ). told left) (omega arith)
-  where
-    told : ℕ → DayInMonth
-    told left = record { day = place - from + 1; left = left }
+-- what a year's table says at a place
+pub table-at : (number : MonthDay → ℕ) (long : Bool) (n : ℕ) → n < 373 → getD (yearTable number long) n 0 ≡ number (tableDay long n)
+unfolding yearTable
+table-at number long n h = tab-at (λ (n : ℕ). number (tableDay long n)) 0 373 n h

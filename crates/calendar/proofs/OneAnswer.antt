@@ -4,14 +4,16 @@ use Rattle.calendar.proofs.AsksNothing.{AsksNothing, nothing-asked}
 use Rattle.calendar.proofs.Determines.{Determines, one-answer}
 use Rattle.calendar.proofs.masks.month_at.Kinds as month-at-kinds
 use Rattle.calendar.proofs.masks.month_at.Reads as month-at
-use Rattle.calendar.proofs.masks.month_of_place.Kinds as month-of-place-kinds
-use Rattle.calendar.proofs.masks.month_of_place.Reads as month-of-place
-use Rattle.calendar.proofs.masks.day_of_place.Kinds as day-of-place-kinds
-use Rattle.calendar.proofs.masks.day_of_place.Reads as day-of-place
 use Rattle.calendar.proofs.masks.month_day_at.Kinds as month-day-at-kinds
 use Rattle.calendar.proofs.masks.month_day_at.Reads as month-day-at
 use Rattle.calendar.proofs.masks.month_day_from_end_at.Kinds as month-day-from-end-at-kinds
 use Rattle.calendar.proofs.masks.month_day_from_end_at.Reads as month-day-from-end-at
+use Rattle.calendar.proofs.masks.month_table.Kinds as month-table-kinds
+use Rattle.calendar.proofs.masks.month_table.Reads as month-table
+use Rattle.calendar.proofs.masks.month_day_table.Kinds as month-day-table-kinds
+use Rattle.calendar.proofs.masks.month_day_table.Reads as month-day-table
+use Rattle.calendar.proofs.masks.month_day_from_end_table.Kinds as month-day-from-end-table-kinds
+use Rattle.calendar.proofs.masks.month_day_from_end_table.Reads as month-day-from-end-table
 use Rattle.calendar.proofs.masks.days_before_month.Kinds as days-before-month-kinds
 use Rattle.calendar.proofs.masks.days_before_month.Reads as days-before-month
 use Rattle.calendar.proofs.masks.month_length.Kinds as month-length-kinds
@@ -36,17 +38,20 @@ use Rattle.calendar.proofs.utils.weekday_of_day.Reads as weekday-of-day
 pub month-at-has-one : Determines 0 month-at-kinds.ps month-at-kinds.r month-at.Post
 month-at-has-one κs a x y e f = one-answer
 
-pub month-of-place-has-one : Determines 0 month-of-place-kinds.ps month-of-place-kinds.r month-of-place.Post
-month-of-place-has-one κs a x y e f = one-answer
-
-pub day-of-place-has-one : Determines 0 day-of-place-kinds.ps day-of-place-kinds.r day-of-place.Post
-day-of-place-has-one κs a x y e f = one-answer
-
 pub month-day-at-has-one : Determines 0 month-day-at-kinds.ps month-day-at-kinds.r month-day-at.Post
 month-day-at-has-one κs a x y e f = one-answer
 
 pub month-day-from-end-at-has-one : Determines 0 month-day-from-end-at-kinds.ps month-day-from-end-at-kinds.r month-day-from-end-at.Post
 month-day-from-end-at-has-one κs a x y e f = one-answer
+
+pub month-table-has-one : Determines 0 month-table-kinds.ps month-table-kinds.r month-table.Post
+month-table-has-one κs a x y e f = one-answer
+
+pub month-day-table-has-one : Determines 0 month-day-table-kinds.ps month-day-table-kinds.r month-day-table.Post
+month-day-table-has-one κs a x y e f = one-answer
+
+pub month-day-from-end-table-has-one : Determines 0 month-day-from-end-table-kinds.ps month-day-from-end-table-kinds.r month-day-from-end-table.Post
+month-day-from-end-table-has-one κs a x y e f = one-answer
 
 pub days-before-month-has-one : Determines 0 days-before-month-kinds.ps days-before-month-kinds.r days-before-month.Post
 days-before-month-has-one κs a x y e f = one-answer

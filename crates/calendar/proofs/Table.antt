@@ -1,15 +1,11 @@
 -- A table's rule at each of its entries, from one computed test. For entries of any type.
 -- Assumes nothing.
 use mathlib.Core.Path.{_≡_, _∙_, sym, ap}
-use mathlib.Core.List.{List, [], _∷_}
+use mathlib.Core.List.{List}
 use Prim.Native.Nat.{ℕ, zero, suc, _+_, _<_}
 use native.Mathlib.Nat.{add-zero, zero-add, add-suc, suc-add, le-of-suc-le-suc, not-suc-le-zero}
 use lib.ListN.{getD}
-
--- the table of what a function says at n places from i on
-abbrev pub tab : {A : Type 0} → (ℕ → A) → ℕ → ℕ → List A
-tab f i zero = []
-tab f i (suc n) = f i ∷ tab f (suc i) n
+use Rattle.calendar.specs.Calendar.{tab}
 
 tab-from : {A : Type 0} (f : ℕ → A) (d : A) (n i k : ℕ) → k < n → getD (tab f i n) k d ≡ f (i + k)
 tab-from f d zero i k h = absurd (not-suc-le-zero h)
@@ -22,7 +18,3 @@ tab-at f d n k h = tab-from f d n 0 k h ∙ ap f (zero-add k)
 -- two functions with one table are equal at each of its places
 pub same-below : {A : Type 0} (f g : ℕ → A) (d : A) (n : ℕ) → tab f 0 n ≡ tab g 0 n → (k : ℕ) → k < n → f k ≡ g k
 same-below f g d n e k h = sym (tab-at f d n k h) ∙ ap (λ (l : List _). getD l k d) e ∙ tab-at g d n k h
-
--- the same from a place on
-pub same-from : {A : Type 0} (f g : ℕ → A) (d : A) (i n : ℕ) → tab f i n ≡ tab g i n → (k : ℕ) → k < n → f (i + k) ≡ g (i + k)
-same-from f g d i n e k h = sym (tab-from f d n i k h) ∙ ap (λ (l : List _). getD l k d) e ∙ tab-from g d n i k h

@@ -5,7 +5,6 @@ use mathlib.Core.Bool.{Bool, true, false, not, _&&_, _||_}
 use mathlib.Core.List.{List, [], _∷_}
 use lib.ListN.{take, getD}
 use lib.Dec.{eqb, ltb}
-use Rattle.calendar.specs.declared.masks.DayInMonth.{DayInMonth}
 use Rattle.calendar.specs.declared.utils.Date.{Date}
 
 infix 1 if_then_else_
@@ -90,17 +89,30 @@ monthDayOf long n = monthDayFrom (monthLengths long) 1 n
 abbrev pub fromEnd : MonthDay → ℕ
 fromEnd p = p .length - (p .day - 1)
 
-abbrev pub dayInMonth : MonthDay → DayInMonth
-dayInMonth p = record { day = p .day; left = fromEnd p }
-
--- the day at a place of a month that lies between two places
-abbrev pub dayBetween : (place from to : ℕ) → DayInMonth
-dayBetween place from to = record { day = place - from + 1; left = to - place }
-
 -- The year tables go through the year and on through the first seven days of the next January; past them there is no day.
 unfoldable pub tableDay : Bool → ℕ → MonthDay
 unfolding monthDayOf
 tableDay long n = elim (ltb n (daysOf long + 7)) [ true ↦ monthDayOf long (n % daysOf long) | false ↦ noDay ]
+
+-- what a function says at n places from i on
+abbrev pub tab : {A : Type 0} → (ℕ → A) → ℕ → ℕ → List A
+tab f i zero = []
+tab f i (suc n) = f i ∷ tab f (suc i) n
+
+-- A year's table of one number of each day, in 373 places: the last of a common year's has no day.
+unfoldable pub yearTable : (MonthDay → ℕ) → Bool → List ℕ
+unfolding tableDay
+yearTable number long = tab (λ n. number (tableDay long n)) 0 373
+
+-- of the month, of its day, and of its day from the month's end
+abbrev pub monthTable : Bool → List ℕ
+monthTable long = yearTable (λ p. p .month) long
+
+abbrev pub monthDayTable : Bool → List ℕ
+monthDayTable long = yearTable (λ p. p .day) long
+
+abbrev pub fromEndTable : Bool → List ℕ
+fromEndTable long = yearTable fromEnd long
 
 abbrev pub dateIn : ℕ → MonthDay → Date
 dateIn y p = record { year = y; month = p .month; day = p .day; length = p .length }

@@ -9,14 +9,10 @@ use crate::masks_366::MONTH_366_RANGE;
 use crate::masks_366::MONTH_DAY_366;
 use crate::masks_366::MONTH_DAY_FROM_END_366;
 ghost use mathlib.Core.Path.{_≡_};
-ghost use Prim.Native.Nat.{_+_, _-_, _≤_, _<_, min};
-ghost use Rattle.calendar.specs.Calendar.{tableDay, fromEnd, dayInMonth, dayBetween, daysBeforeMonth, monthLength};
-
-// A day of a month: which, and how many are left with it.
-pub struct DayInMonth {
-    pub day: u8,
-    pub left: u8,
-}
+ghost use mathlib.Core.List.{[], _∷_, _++_};
+ghost use Prim.Native.Nat.{_-_, min};
+ghost use lib.ListN.{length};
+ghost use Rattle.calendar.specs.Calendar.{tableDay, fromEnd, monthTable, monthDayTable, fromEndTable, daysBeforeMonth, monthLength};
 
 // The month of the day at a place of a year's table, counted from 0; 0 past the table.
 pub fn month_at(long: bool, place: usize) -> u8
@@ -26,55 +22,6 @@ pub fn month_at(long: bool, place: usize) -> u8
         if place < 373 { MONTH_366[place] } else { 0 }
     } else {
         if place < 372 { MONTH_365[place] } else { 0 }
-    }
-}
-
-// The same, reckoned from 1 March, after which five months in a row have 153 days: the compiled code copies the whole table to read one
-// number of it, and the month is asked for day after day.
-pub fn month_of_place(long: bool, place: usize) -> u8
-    ensures { λ r. ⌜ r ≡ tableDay long place .month ⌝ }
-{
-    let march = days_before_month(long, 3) as usize;
-    if place < march {
-        return if place < 31 { 1 } else { 2 };
-    }
-    let past = place - march;
-    if past < 306 {
-        return ((5 * past + 2) / 153 + 3) as u8;
-    }
-    if past < 313 { 1 } else { 0 }
-}
-
-// Its day of the month, and that from the month's end, reckoned in the same way.
-pub fn day_of_place(long: bool, place: usize) -> DayInMonth
-    ensures { λ r. ⌜ r ≡ dayInMonth (tableDay long place) ⌝ }
-{
-    let march = days_before_month(long, 3) as usize;
-    if place < 31 {
-        return day_between(place, 0, 31);
-    }
-    if place < march {
-        return day_between(place, 31, march);
-    }
-    let past = place - march;
-    if past < 306 {
-        let month = (5 * past + 2) / 153;
-        return day_between(past, (153 * month + 2) / 5, (153 * month + 155) / 5);
-    }
-    if past < 313 {
-        return day_between(past, 306, 337);
-    }
-    DayInMonth { day: 0, left: 0 }
-}
-
-// The day at a place of a month that lies between two places.
-fn day_between(place: usize, from: usize, to: usize) -> DayInMonth
-    requires { ⌜ (from ≤ place) × (place < to) × (to ≤ from + 31) ⌝ }
-    ensures { λ r. ⌜ r ≡ dayBetween place from to ⌝ }
-{
-    DayInMonth {
-        day: (place - from + 1) as u8,
-        left: (to - place) as u8,
     }
 }
 
@@ -106,6 +53,51 @@ pub fn month_day_from_end_at(long: bool, place: usize) -> u8
             0
         }
     }
+}
+
+// A year's table of months, to be lent to whoever asks for many of its days: what is read of a constant is copied whole.
+pub fn month_table(long: bool) -> [u8; 373]
+    ensures { λ r. ⌜ r ≡ monthTable long ⌝ }
+{
+    if long {
+        MONTH_366
+    } else {
+        with_no_day(MONTH_365)
+    }
+}
+
+// Its table of days of the month.
+pub fn month_day_table(long: bool) -> [u8; 373]
+    ensures { λ r. ⌜ r ≡ monthDayTable long ⌝ }
+{
+    if long {
+        MONTH_DAY_366
+    } else {
+        with_no_day(MONTH_DAY_365)
+    }
+}
+
+// Its table of days from the month's end.
+pub fn month_day_from_end_table(long: bool) -> [u8; 373]
+    ensures { λ r. ⌜ r ≡ fromEndTable long ⌝ }
+{
+    if long {
+        MONTH_DAY_FROM_END_366
+    } else {
+        with_no_day(MONTH_DAY_FROM_END_365)
+    }
+}
+
+// A common year's table, with a place more, where there is no day.
+fn with_no_day(table: [u8; 372]) -> [u8; 373]
+    requires { ⌜ length table ≡ 372 ⌝ }
+    ensures { λ r. ⌜ r ≡ table ++ (0 ∷ []) ⌝ }
+{
+    let mut longer = [0; 373];
+    for place in 0..372 {
+        longer[place] = table[place];
+    }
+    longer
 }
 
 // The days of a year before a month, which counts from 1; behind December they are all of them.

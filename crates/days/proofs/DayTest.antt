@@ -10,11 +10,11 @@ use native.Mathlib.Omega.{arith}
 use native.Mathlib.Decide.{decLt}
 use borrow.Author.Tests.{lt-ltb, le-leb, not-false}
 use Rattle.calendar.specs.declared.utils.Date.{Date}
-use Rattle.calendar.specs.Calendar.{if_then_else_, leap, daysOf, yearLength, newYear, yearOf, MonthDay, noDay, monthDayOf, tableDay, dateIn, yearDay, dateOf, weekday}
+use Rattle.calendar.specs.Calendar.{if_then_else_, leap, daysOf, yearLength, newYear, yearOf, MonthDay, noDay, monthDayOf, fromEnd, tableDay, monthTable, monthDayTable, fromEndTable, dateIn, yearDay, dateOf, weekday}
 use Rattle.calendar.specs.Claims.{InPlace}
 use Rattle.calendar.proofs.Table.{same-below}
 use Rattle.calendar.proofs.Years.{years-follow, one-place}
-use Rattle.calendar.proofs.Months.{in-year}
+use Rattle.calendar.proofs.Months.{in-year, table-at}
 use Rattle.calendar.proofs.Dates.{date-at}
 use Rattle.rule.specs.declared.rrule.Rule.{Rule}
 use lib.IntN.{pos}
@@ -24,10 +24,10 @@ use Rattle.rule.proofs.SetLaws.{flags-at}
 use Rattle.weeks.specs.declared.yearinfo.Year.{Year}
 use Rattle.weeks.specs.Weeks.{yearInfo, weekMask}
 use Rattle.weeks.proofs.Years.{mask-of-rule}
-use Rattle.rule.specs.Days.{yearday, nthPasses, asked, monthPasses, monthdayPasses, yeardayPasses, weekPasses, weekdayPasses, datePasses, dayPasses}
+use Rattle.rule.specs.Days.{eitherEnd, yearday, nthPasses, asked, monthPasses, monthdayPasses, yeardayPasses, weekPasses, weekdayPasses, datePasses, dayPasses}
 use Rattle.nths.specs.Masks.{yearDayAt, yearLengthAt, nthAt, nthMask}
 use Rattle.days.specs.Filters.{ruleLists, whereAsked, monthAt, monthdayAt, yeardayAt, weekdayAt, placePasses}
-use Rattle.years.specs.Info.{askedOf, maskWhere, infoOf, countsInYear, ruleInfo}
+use Rattle.years.specs.Info.{askedOf, tableWhere, maskWhere, infoOf, countsInYear, ruleInfo}
 use Rattle.rule.specs.Candidates.{gather, only}
 use Rattle.clocks.specs.Blocks.{passing}
 use Rattle.days.specs.DaySets.{daySet}
@@ -150,17 +150,49 @@ asked-is : (b x : Bool) → whereAsked (not b) x ≡ (b || x)
 asked-is true x = refl
 asked-is false x = refl
 
+-- and its test is asked only then
+asked-at : (b : Bool) {x z : Bool} → (not b ≡ true → x ≡ z) → whereAsked (not b) x ≡ (b || z)
+asked-at true f = refl
+asked-at false f = f refl
+
 module _ (r : Rule) (y i : ℕ) (start : r .wkst ≤ 6) (low : 3 ≤ y) (high : y ≤ 9999) (inside : i < yearLength y + 7) where
   at : PlaceDate y i (yearOf (newYear y + i))
   at = place-date y i (omega arith) inside
 
-  month-part : whereAsked (askedOf r .month) (monthAt (leap y) (r .bymonth) i) ≡ asked (r .bymonth) (monthPasses r (dateOf (newYear y + i)))
-  unfolding askedOf monthAt monthPasses
-  month-part = rw (at .date) (asked-is (isEmpty (r .bymonth)) _)
+  place : i < 373
+  place = omega (arith, inside, days-high (leap y))
 
-  month-day-part : whereAsked (askedOf r .monthday) (monthdayAt (leap y) (r .bymonthday) i) ≡ asked (r .bymonthday) (monthdayPasses r (dateOf (newYear y + i)))
-  unfolding askedOf monthdayAt monthdayPasses
-  month-day-part = rw (at .date) (asked-is (isEmpty (r .bymonthday)) _)
+  -- the tables are the year's
+  months-at : askedOf r .month ≡ true → getD (ruleInfo r y .months) i 0 ≡ tableDay (leap y) i .month
+  unfolding ruleInfo infoOf
+  months-at a =
+      ap (λ (b : Bool). getD (tableWhere b (monthTable (yearInfo y .long))) i 0) a
+      ∙ ap (λ (x : Year). getD (monthTable (x .long)) i 0) (year-is y high) ∙ table-at (λ (p : MonthDay). p .month) (leap y) i place
+
+  days-at : askedOf r .monthday ≡ true → getD (ruleInfo r y .monthdays) i 0 ≡ tableDay (leap y) i .day
+  unfolding ruleInfo infoOf
+  days-at a =
+      ap (λ (b : Bool). getD (tableWhere b (monthDayTable (yearInfo y .long))) i 0) a
+      ∙ ap (λ (x : Year). getD (monthDayTable (x .long)) i 0) (year-is y high) ∙ table-at (λ (p : MonthDay). p .day) (leap y) i place
+
+  ends-at : askedOf r .monthday ≡ true → getD (ruleInfo r y .fromends) i 0 ≡ fromEnd (tableDay (leap y) i)
+  unfolding ruleInfo infoOf
+  ends-at a =
+      ap (λ (b : Bool). getD (tableWhere b (fromEndTable (yearInfo y .long))) i 0) a
+      ∙ ap (λ (x : Year). getD (fromEndTable (x .long)) i 0) (year-is y high) ∙ table-at fromEnd (leap y) i place
+
+  month-part : whereAsked (askedOf r .month) (monthAt (ruleInfo r y .months) (r .bymonth) i) ≡ asked (r .bymonth) (monthPasses r (dateOf (newYear y + i)))
+  unfolding askedOf monthAt monthPasses
+  month-part = asked-at (isEmpty (r .bymonth)) (λ e. rw (months-at e, at .date))
+
+  -- counted from the end, a day is as far from it as its table says
+  from-its-end : tableDay (leap y) i .length + 1 - tableDay (leap y) i .day ≡ fromEnd (tableDay (leap y) i)
+  from-its-end = omega (arith, row (leap y) i inside .day-low)
+
+  month-day-part : whereAsked (askedOf r .monthday) (monthdayAt (ruleInfo r y .monthdays) (ruleInfo r y .fromends) (r .bymonthday) i)
+      ≡ asked (r .bymonthday) (monthdayPasses r (dateOf (newYear y + i)))
+  unfolding askedOf monthdayAt monthdayPasses eitherEnd
+  month-day-part = asked-at (isEmpty (r .bymonthday)) (λ e. rw (days-at e, ends-at e, at .date, from-its-end))
 
   year-day-part : whereAsked (askedOf r .yearday) (yeardayAt (leap y) (leap (y + 1)) (r .byyearday) i)
       ≡ asked (r .byyearday) (yeardayPasses r (yearOf (newYear y + i)) (newYear y + i))
@@ -219,18 +251,16 @@ module _ (r : Rule) (y i : ℕ) (start : r .wkst ≤ 6) (low : 3 ≤ y) (high : 
           ≡ (isEmpty (r .byday) || (isPairIn (r .byday) (pos 0) (pos (weekday (newYear y + i))) || (askedOf r .nth && getD (ruleInfo r y .nths) i false)))
       asked-day = asked-is (isEmpty (r .byday)) _
 
-  all-parts : placePasses (askedOf r) (record { number = y; long = leap y; nextlong = leap (y + 1); first = newYear y }) (ruleLists r) (ruleInfo r y .weeks) (ruleInfo r y .nths) i
-      ≡ dayPasses r (newYear y + i)
-  unfolding placePasses dayPasses datePasses
-  all-parts = rw (lt-ltb i (yearLength y + 7) inside, month-part, month-day-part, year-day-part, week-part, weekday-part)
+  info-year : ruleInfo r y .year ≡ record { number = y; long = leap y; nextlong = leap (y + 1); first = newYear y }
+  unfolding ruleInfo infoOf
+  info-year = year-is y high
 
-info-year : (r : Rule) (y : ℕ) → ruleInfo r y .year ≡ yearInfo y
-unfolding ruleInfo infoOf
-info-year r y = refl
+  all-parts : placePasses (askedOf r) (ruleInfo r y) (ruleLists r) i ≡ dayPasses r (newYear y + i)
+  unfolding placePasses dayPasses datePasses
+  all-parts = rw (info-year, lt-ltb i (yearLength y + 7) inside, month-part, month-day-part, year-day-part, week-part, weekday-part)
 
 pub day-test-is : DayTestIs
-day-test-is r y i s l h k =
-    ap (λ (x : Year). placePasses (askedOf r) x (ruleLists r) (ruleInfo r y .weeks) (ruleInfo r y .nths) i) (info-year r y ∙ year-is y h) ∙ all-parts r y i s l h k
+day-test-is r y i s l h k = all-parts r y i s l h k
 
 -- ---- the day set
 
@@ -255,5 +285,5 @@ day-set-is r y from to s l h a b =
     let e : min to 373 ≡ to = omega (arith, days-high (leap y)) in
     let n : from + (to - from) ≡ to = omega arith in
     rw e (passing-same
-    (placePasses (askedOf r) (ruleInfo r y .year) (ruleLists r) (ruleInfo r y .weeks) (ruleInfo r y .nths)) (dayPasses r) (newYear y) (to - from) from
+    (placePasses (askedOf r) (ruleInfo r y) (ruleLists r)) (dayPasses r) (newYear y) (to - from) from
     (λ j u v. day-test-is r y j s l h (omega arith)))

@@ -1,37 +1,56 @@
 -- What each filter reads is its list's test.
 -- Assumes nothing.
-use Prim.Native.Nat.{ℕ, _+_, _-_, _%_, _≤_, _<_}
+use Prim.Native.Nat.{ℕ, zero, suc, _+_, _-_, _%_, _≤_, _<_}
 use mathlib.Core.Path.{_≡_, refl, sym, ap, _∙_}
 use mathlib.Core.Bool.{Bool, true, false, not, _&&_, _||_}
 use mathlib.Core.List.{List}
+use lib.IntN.{pos, negℤ}
 use lib.ListN.{getD}
 use native.Mathlib.Omega.{arith}
-use Rattle.calendar.specs.Calendar.{daysOf, MonthDay, tableDay, fromEnd, weekday}
-use Rattle.rule.specs.Lists.{monthdays, yeardays}
-use Rattle.weeks.specs.declared.yearinfo.Year.{Year}
+use borrow.Author.Tests.{lt-leb}
+use Rattle.calendar.specs.Calendar.{daysOf, weekday}
+use Rattle.rule.specs.declared.rrule.Range.{Range}
+use Rattle.rule.specs.Lists.{monthdays, yeardays, slotOf, isIn}
 use Rattle.years.specs.declared.lists.Asked.{Asked}
+use Rattle.years.specs.declared.iterinfo.IterInfo.{IterInfo}
 use Rattle.nths.specs.Masks.{inTables, yearDayAt, yearLengthAt}
-use Rattle.days.specs.Filters.{DayLists, whereAsked, monthAt, monthdayAt, yeardayAt, weekdayAt, placePasses}
-use Rattle.nths.proofs.Rows.{Row, row, YearDay, year-day}
-use Rattle.nths.proofs.Slots.{month-slot, end-slots, every-slot}
+use Rattle.days.specs.Filters.{DayLists, whereAsked, hasMonth, hasDay, hasLeft, monthAt, monthdayAt, yeardayAt, weekdayAt, placePasses}
+use Rattle.nths.proofs.Rows.{YearDay, year-day}
+use Rattle.nths.proofs.Slots.{in-forward, in-back, end-slots, every-slot}
 
-pub month-read : (a long : Bool) (s : List Bool) (i m : ℕ) → a ≡ true → i < daysOf long + 7 → m ≡ tableDay long i .month
-    → not (getD s (m - 1) false) ≡ not (whereAsked a (monthAt long s i))
+-- a number that a list has no value for is not in it: 0, and one past the list's range
+pub none-at-nought : (g : Range) (s : List Bool) (v : ℕ) → g .zeroin ≡ false → v ≡ 0 → (isIn g s (pos v) ≡ false) × (isIn g s (negℤ (pos v)) ≡ false)
+unfolding isIn slotOf
+none-at-nought g s v z e = rw (e, z) (refl, refl)
+
+pub none-above : (g : Range) (s : List Bool) (v : ℕ) → g .positives < v → isIn g s (pos v) ≡ false
+unfolding isIn slotOf
+none-above g s zero h = absurd (omega arith)
+none-above g s (suc v) h = rw (lt-leb (suc v) (g .positives) h)
+
+pub none-below : (g : Range) (s : List Bool) (v : ℕ) → g .negatives < v → isIn g s (negℤ (pos v)) ≡ false
+unfolding isIn slotOf
+none-below g s zero h = absurd (omega arith)
+none-below g s (suc v) h = rw (lt-leb (suc v) (g .negatives) h)
+
+-- where it has one, its flag is read
+pub day-slot : (s : List Bool) (d : ℕ) → 1 ≤ d → d ≤ 31 → isIn monthdays s (pos d) ≡ getD s (30 + d) false
+day-slot s zero l h = absurd (omega arith)
+day-slot s (suc d) l h = in-forward monthdays s d (omega arith) ∙ ap (λ (i : ℕ). getD s i false) (omega arith)
+
+pub left-slot : (s : List Bool) (d : ℕ) → 1 ≤ d → d ≤ 31 → isIn monthdays s (negℤ (pos d)) ≡ getD s (31 - d) false
+left-slot s zero l h = absurd (omega arith)
+left-slot s (suc d) l h = in-back monthdays s d (omega arith)
+
+pub month-read : (a : Bool) (table : List ℕ) (s : List Bool) (i : ℕ) (r : Bool) → a ≡ true → r ≡ hasMonth s (getD table i 0)
+    → not r ≡ not (whereAsked a (monthAt table s i))
 unfolding monthAt
-month-read a long s i m h k e =
-    let r = row long i k in
-    rw (h, e, month-slot s (tableDay long i .month) (r .month-low) (r .month-high))
+month-read a table s i r h e = rw (h, e)
 
-pub month-day-read : (a long : Bool) (s : List Bool) (i p l : ℕ) → a ≡ true → i < daysOf long + 7 → p ≡ tableDay long i .day → l ≡ fromEnd (tableDay long i)
-    → not (getD s (30 + p) false || getD s (31 - l) false) ≡ not (whereAsked a (monthdayAt long s i))
+pub month-day-read : (a : Bool) (days ends : List ℕ) (s : List Bool) (i : ℕ) (p q : Bool) → a ≡ true
+    → p ≡ hasDay s (getD days i 0) → q ≡ hasLeft s (getD ends i 0) → not (p || q) ≡ not (whereAsked a (monthdayAt days ends s i))
 unfolding monthdayAt
-month-day-read a long s i p l h k e f =
-    let r = row long i k in
-    let day : ℕ = tableDay long i .day in
-    let length : ℕ = tableDay long i .length in
-    let x : 30 + p ≡ 31 + day - 1 = omega arith in
-    let y : 31 - l ≡ 31 - (length + 1 - day) = omega arith in
-    rw (h, x, y, end-slots monthdays s day length refl (r .day-low) (r .day-high) (r .length-high) (r .length-high))
+month-day-read a days ends s i p q h e f = rw (h, e, f)
 
 pub year-day-read : (a long nextlong : Bool) (s : List Bool) (i p l : ℕ) → a ≡ true → i < daysOf long + 7
     → p ≡ yearDayAt long i → l ≡ yearLengthAt long nextlong i + 1 - yearDayAt long i
@@ -55,10 +74,9 @@ weekday-read a nth first s nths i w h e =
     rw (h, e, every-slot s ((first + i) % 7) (omega arith))
 
 -- A place past the tables fails; another fails where some list filters it out.
-pub past-fails : (a : Asked) (y : Year) (l : DayLists) (weeks nths : List Bool) (i : ℕ) → inTables (y .long) i ≡ false
-    → true ≡ not (placePasses a y l weeks nths i)
+pub past-fails : (a : Asked) (info : IterInfo) (l : DayLists) (i : ℕ) → inTables (info .year .long) i ≡ false → true ≡ not (placePasses a info l i)
 unfolding placePasses
-past-fails a y l weeks nths i h = rw h
+past-fails a info l i h = rw h
 
 not-all : (a b c d e : Bool) → (not a || (not b || (not c || (not d || not e)))) ≡ not (a && (b && (c && (d && e))))
 not-all true true true true e = refl
@@ -67,18 +85,18 @@ not-all true true false d e = refl
 not-all true false c d e = refl
 not-all false b c d e = refl
 
-pub some-filters : (a : Asked) (y : Year) (l : DayLists) (weeks nths : List Bool) (i : ℕ) → inTables (y .long) i ≡ true
-    → (not (whereAsked (a .month) (monthAt (y .long) (l .bymonth) i))
-    || (not (whereAsked (a .monthday) (monthdayAt (y .long) (l .bymonthday) i))
-    || (not (whereAsked (a .yearday) (yeardayAt (y .long) (y .nextlong) (l .byyearday) i))
-    || (not (whereAsked (a .weekno) (getD weeks i false))
-    || not (whereAsked (a .day) (weekdayAt (a .nth) (y .first) (l .byday) nths i))))))
-    ≡ not (placePasses a y l weeks nths i)
+pub some-filters : (a : Asked) (info : IterInfo) (l : DayLists) (i : ℕ) → inTables (info .year .long) i ≡ true
+    → (not (whereAsked (a .month) (monthAt (info .months) (l .bymonth) i))
+    || (not (whereAsked (a .monthday) (monthdayAt (info .monthdays) (info .fromends) (l .bymonthday) i))
+    || (not (whereAsked (a .yearday) (yeardayAt (info .year .long) (info .year .nextlong) (l .byyearday) i))
+    || (not (whereAsked (a .weekno) (getD (info .weeks) i false))
+    || not (whereAsked (a .day) (weekdayAt (a .nth) (info .year .first) (l .byday) (info .nths) i))))))
+    ≡ not (placePasses a info l i)
 unfolding placePasses
-some-filters a y l weeks nths i h =
+some-filters a info l i h =
     rw h (not-all
-    (whereAsked (a .month) (monthAt (y .long) (l .bymonth) i))
-    (whereAsked (a .monthday) (monthdayAt (y .long) (l .bymonthday) i))
-    (whereAsked (a .yearday) (yeardayAt (y .long) (y .nextlong) (l .byyearday) i))
-    (whereAsked (a .weekno) (getD weeks i false))
-    (whereAsked (a .day) (weekdayAt (a .nth) (y .first) (l .byday) nths i)))
+    (whereAsked (a .month) (monthAt (info .months) (l .bymonth) i))
+    (whereAsked (a .monthday) (monthdayAt (info .monthdays) (info .fromends) (l .bymonthday) i))
+    (whereAsked (a .yearday) (yeardayAt (info .year .long) (info .year .nextlong) (l .byyearday) i))
+    (whereAsked (a .weekno) (getD (info .weeks) i false))
+    (whereAsked (a .day) (weekdayAt (a .nth) (info .year .first) (l .byday) (info .nths) i)))

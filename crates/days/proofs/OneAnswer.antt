@@ -29,8 +29,8 @@ plain-days-has-one κs a x y e f p q = (one-answer (p .0) (q .0), one-answer (p 
 pub is-month-alone-has-one : Determines 0 is-month-alone-kinds.ps is-month-alone-kinds.r is-month-alone.Post
 is-month-alone-has-one κs a x y e f = one-answer
 
-pub days-by-month-has-one : DeterminesBuffer 2 days-by-month-kinds.ps days-by-month-kinds.r (List ℕ) (λ κs e. e .1 .1 .1 .1 .0 .now) days-by-month.Post
+pub days-by-month-has-one : DeterminesBuffer 3 days-by-month-kinds.ps days-by-month-kinds.r (List ℕ) (λ κs e. e .1 .1 .1 .1 .1 .0 .now) days-by-month.Post
 days-by-month-has-one κs a x y e f p q = (one-answer (p .0) (q .0), one-answer (p .1) (q .1))
 
-pub get-dayset-has-one : DeterminesBuffer 3 get-dayset-kinds.ps get-dayset-kinds.r (List ℕ) (λ κs e. e .1 .1 .1 .1 .1 .1 .1 .1 .1 .1 .0 .now) get-dayset.Post
+pub get-dayset-has-one : DeterminesBuffer 3 get-dayset-kinds.ps get-dayset-kinds.r (List ℕ) (λ κs e. e .1 .1 .1 .1 .1 .1 .1 .1 .1 .1 .1 .1 .1 .0 .now) get-dayset.Post
 get-dayset-has-one κs a x y e f p q = (one-answer (p .0) (q .0), one-answer (p .1) (q .1))

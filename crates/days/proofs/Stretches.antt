@@ -13,8 +13,8 @@ use Rattle.calendar.specs.Calendar.{daysOf, weekday}
 use Rattle.rule.specs.Candidates.{gather, only}
 use Rattle.rule.proofs.GivenLaws.{neither}
 use Rattle.clocks.specs.Blocks.{passing}
-use Rattle.weeks.specs.declared.yearinfo.Year.{Year}
 use Rattle.years.specs.declared.lists.Asked.{Asked}
+use Rattle.years.specs.declared.iterinfo.IterInfo.{IterInfo}
 use Rattle.nths.specs.Masks.{inTables}
 use Rattle.days.specs.Filters.{DayLists, monthAt, yeardayAt, weekdayAt, placePasses}
 use Rattle.days.specs.DaySets.{daySet, isPlain, isMonthAlone, isMixed, hasEvery, allDays, markedDays, monthDays, yearDays, weekdayDays}
@@ -60,18 +60,18 @@ no-every s w h k =
     go (suc (suc (suc (suc (suc (suc zero)))))) k a b c d e f g = g
     go (suc (suc (suc (suc (suc (suc (suc w))))))) k a b c d e f g = absurd (omega arith)
 
-module _ (a : Asked) (y : Year) (l : DayLists) (weeks nths : List Bool) (from to : ℕ) where
+module _ (a : Asked) (info : IterInfo) (l : DayLists) (from to : ℕ) where
   -- one test decides in the tables
-  by-test : (q : ℕ → Bool) → ((i : ℕ) → inTables (y .long) i ≡ true → placePasses a y l weeks nths i ≡ q i)
-      → daySet a y l weeks nths from to ≡ passing q (min to (daysOf (y .long) + 7) - from) from
+  by-test : (q : ℕ → Bool) → ((i : ℕ) → inTables (info .year .long) i ≡ true → placePasses a info l i ≡ q i)
+      → daySet a info l from to ≡ passing q (min to (daysOf (info .year .long) + 7) - from) from
   unfolding daySet
   by-test q f =
-      let high = days-high (y .long) in
-      let e : ℕ = daysOf (y .long) + 7 in
+      let high = days-high (info .year .long) in
+      let e : ℕ = daysOf (info .year .long) + 7 in
       let m : min (min to 373) e - from ≡ min to e - from = omega arith in
-      cut (placePasses a y l weeks nths) q e
+      cut (placePasses a info l) q e
       (λ i h. f i (lt-ltb i e h))
-      (λ i h. not-true _ (sym (past-fails a y l weeks nths i (le-ltb i e h))))
+      (λ i h. not-true _ (sym (past-fails a info l i (le-ltb i e h))))
       (min to 373) (min to 373 - from) from refl
       ∙ ap (λ (n : ℕ). passing q n from) m
 
@@ -93,17 +93,17 @@ module _ (a : Asked) (y : Year) (l : DayLists) (weeks nths : List Bool) (from to
   and-true true = refl
   and-true false = refl
 
-  pub by-month : isMixed a ≡ false → a .month ≡ true → daySet a y l weeks nths from to ≡ monthDays (y .long) (l .bymonth) from (min to (daysOf (y .long) + 7))
+  pub by-month : isMixed a ≡ false → a .month ≡ true → daySet a info l from to ≡ monthDays (info .months) (l .bymonth) from (min to (daysOf (info .year .long) + 7))
   unfolding monthDays placePasses
   by-month h k =
       let u = sole h in
       let r : (a .yearday || (a .weekno || a .day)) ≡ false = rw k at (u .beside-month) in
       let b = neither (a .yearday) (a .weekno || a .day) r in
       let c = neither (a .weekno) (a .day) (b .1) in
-      by-test (monthAt (y .long) (l .bymonth)) (λ i t. rw (t, k, u .monthday, b .0, c .0, c .1) (and-true (monthAt (y .long) (l .bymonth) i)))
+      by-test (monthAt (info .months) (l .bymonth)) (λ i t. rw (t, k, u .monthday, b .0, c .0, c .1) (and-true (monthAt (info .months) (l .bymonth) i)))
 
   -- alone, it is not mixed with another list
-  pub by-month-alone : isMonthAlone a ≡ true → daySet a y l weeks nths from to ≡ monthDays (y .long) (l .bymonth) from (min to (daysOf (y .long) + 7))
+  pub by-month-alone : isMonthAlone a ≡ true → daySet a info l from to ≡ monthDays (info .months) (l .bymonth) from (min to (daysOf (info .year .long) + 7))
   by-month-alone e = let u = alone (a .month) (a .monthday) (a .yearday) (a .weekno) (a .day) e in by-month (u .1) (u .0)
     where
       alone : (m d n w b : Bool) → (m && not (d || (n || (w || b)))) ≡ true
@@ -116,23 +116,23 @@ module _ (a : Asked) (y : Year) (l : DayLists) (weeks nths : List Bool) (from to
       alone false d n w b e = absurd (let z : _≡_ {A = ℕ} 0 1 = cc in omega arith)
 
   pub by-year-day : isMixed a ≡ false → a .month ≡ false → a .yearday ≡ true
-      → daySet a y l weeks nths from to ≡ yearDays (y .long) (y .nextlong) (l .byyearday) from (min to (daysOf (y .long) + 7))
+      → daySet a info l from to ≡ yearDays (info .year .long) (info .year .nextlong) (l .byyearday) from (min to (daysOf (info .year .long) + 7))
   unfolding yearDays placePasses
   by-year-day h m k =
       let u = sole h in
       let r : (a .weekno || a .day) ≡ false = rw k at (u .beside-yearday) in
       let c = neither (a .weekno) (a .day) r in
-      by-test (yeardayAt (y .long) (y .nextlong) (l .byyearday)) (λ i t. rw (t, m, u .monthday, k, c .0, c .1) (and-true (yeardayAt (y .long) (y .nextlong) (l .byyearday) i)))
+      by-test (yeardayAt (info .year .long) (info .year .nextlong) (l .byyearday)) (λ i t. rw (t, m, u .monthday, k, c .0, c .1) (and-true (yeardayAt (info .year .long) (info .year .nextlong) (l .byyearday) i)))
 
   pub by-weeks : isMixed a ≡ false → a .month ≡ false → a .yearday ≡ false → a .weekno ≡ true
-      → daySet a y l weeks nths from to ≡ markedDays weeks from (min to (daysOf (y .long) + 7))
+      → daySet a info l from to ≡ markedDays (info .weeks) from (min to (daysOf (info .year .long) + 7))
   unfolding markedDays placePasses
   by-weeks h m x k =
       let u = sole h in
       let d : a .day ≡ false = rw k at (u .beside-week) in
-      by-test (λ i. getD weeks i false) (λ i t. rw (t, m, u .monthday, x, k, d) (and-true (getD weeks i false)))
+      by-test (λ i. getD (info .weeks) i false) (λ i t. rw (t, m, u .monthday, x, k, d) (and-true (getD (info .weeks) i false)))
 
-  pub by-none : isPlain a ≡ true → daySet a y l weeks nths from to ≡ allDays from (min to (daysOf (y .long) + 7))
+  pub by-none : isPlain a ≡ true → daySet a info l from to ≡ allDays from (min to (daysOf (info .year .long) + 7))
   unfolding allDays placePasses
   by-none h =
       let x = neither (a .month) (a .monthday || (a .yearday || (a .weekno || a .day))) (not-true _ h) in
@@ -146,16 +146,16 @@ module _ (a : Asked) (y : Year) (l : DayLists) (weeks nths : List Bool) (from to
   day-asked p h m x k = let d : not (a .day) ≡ false = rw (m, sole h .monthday, x, k) at p in not-false (a .day) d
 
   pub by-weekday : isPlain a ≡ false → isMixed a ≡ false → a .month ≡ false → a .yearday ≡ false → a .weekno ≡ false
-      → daySet a y l weeks nths from to ≡ weekdayDays (a .nth) (y .first) (l .byday) nths from (min to (daysOf (y .long) + 7))
+      → daySet a info l from to ≡ weekdayDays (a .nth) (info .year .first) (l .byday) (info .nths) from (min to (daysOf (info .year .long) + 7))
   unfolding weekdayDays placePasses
   by-weekday p h m x k =
-      by-test (weekdayAt (a .nth) (y .first) (l .byday) nths) (λ i t. rw (t, m, sole h .monthday, x, k, day-asked p h m x k))
+      by-test (weekdayAt (a .nth) (info .year .first) (l .byday) (info .nths)) (λ i t. rw (t, m, sole h .monthday, x, k, day-asked p h m x k))
 
   pub by-nths : isPlain a ≡ false → isMixed a ≡ false → a .month ≡ false → a .yearday ≡ false → a .weekno ≡ false → a .nth ≡ true → hasEvery (l .byday) ≡ false
-      → daySet a y l weeks nths from to ≡ markedDays nths from (min to (daysOf (y .long) + 7))
+      → daySet a info l from to ≡ markedDays (info .nths) from (min to (daysOf (info .year .long) + 7))
   unfolding markedDays placePasses weekdayAt
   by-nths p h m x k n e =
-      by-test (λ i. getD nths i false) (λ i t. rw (t, m, sole h .monthday, x, k, day-asked p h m x k, n, every-slot (l .byday) ((y .first + i) % 7) (omega arith), no-every (l .byday) ((y .first + i) % 7) e (omega arith)))
+      by-test (λ i. getD (info .nths) i false) (λ i t. rw (t, m, sole h .monthday, x, k, day-asked p h m x k, n, every-slot (l .byday) ((info .year .first + i) % 7) (omega arith), no-every (l .byday) ((info .year .first + i) % 7) e (omega arith)))
 
 -- what is written of one list is written of the same list by another name
 pub as-set : (xs ys b b₀ : List ℕ) (n : ℕ) → xs ≡ ys → n ≡ length ys → b ≡ sets b₀ 0 ys → (n ≡ length xs) × (b ≡ sets b₀ 0 xs)

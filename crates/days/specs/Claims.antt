@@ -14,10 +14,10 @@ use Rattle.years.specs.Info.{askedOf, ruleInfo}
 -- The day test by tables and masks is document 01's, for every day of a year and for the seven days after it.
 abbrev pub DayTestIs : Type 0
 DayTestIs = (r : Rule) (y i : ℕ) → r .wkst ≤ 6 → 3 ≤ y → y ≤ 9999 → i < yearLength y + 7
-    → placePasses (askedOf r) (ruleInfo r y .year) (ruleLists r) (ruleInfo r y .weeks) (ruleInfo r y .nths) i ≡ dayPasses r (newYear y + i)
+    → placePasses (askedOf r) (ruleInfo r y) (ruleLists r) i ≡ dayPasses r (newYear y + i)
 
 -- A day set holds the days of its stretch that pass, as places in the year.
 abbrev pub DaySetIs : Type 0
 DaySetIs = (r : Rule) (y from to : ℕ) → r .wkst ≤ 6 → 3 ≤ y → y ≤ 9999 → from ≤ to → to ≤ yearLength y + 7
-    → map (λ i. newYear y + i) (daySet (askedOf r) (ruleInfo r y .year) (ruleLists r) (ruleInfo r y .weeks) (ruleInfo r y .nths) from to)
+    → map (λ i. newYear y + i) (daySet (askedOf r) (ruleInfo r y) (ruleLists r) from to)
     ≡ passing (dayPasses r) (to - from) (newYear y + from)

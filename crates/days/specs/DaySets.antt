@@ -5,15 +5,15 @@ use mathlib.Core.Path.{_≡_}
 use mathlib.Core.Bool.{Bool, true, false, not, _&&_, _||_}
 use mathlib.Core.List.{List}
 use Rattle.clocks.specs.Blocks.{passing}
-use Rattle.weeks.specs.declared.yearinfo.Year.{Year}
 use Rattle.years.specs.declared.lists.Asked.{Asked}
+use Rattle.years.specs.declared.iterinfo.IterInfo.{IterInfo}
 use lib.ListN.{getD}
 use Rattle.days.specs.Filters.{DayLists, monthAt, yeardayAt, weekdayAt, placePasses}
 
 -- the passing places from `from` up to `to`, or up to the tables' end
-unfoldable pub daySet : Asked → Year → DayLists → (weeks nths : List Bool) → (from to : ℕ) → List ℕ
+unfoldable pub daySet : Asked → IterInfo → DayLists → (from to : ℕ) → List ℕ
 unfolding passing placePasses
-daySet a y l weeks nths from to = passing (placePasses a y l weeks nths) (min to 373 - from) from
+daySet a info l from to = passing (placePasses a info l) (min to 373 - from) from
 
 -- No list is asked: every day passes.
 abbrev pub isPlain : Asked → Bool
@@ -40,9 +40,9 @@ unfoldable pub markedDays : (marks : List Bool) → (from end : ℕ) → List �
 unfolding passing
 markedDays marks from end = passing (λ i. getD marks i false) (end - from) from
 
-unfoldable pub monthDays : Bool → (bymonth : List Bool) → (from end : ℕ) → List ℕ
+unfoldable pub monthDays : (table : List ℕ) → (bymonth : List Bool) → (from end : ℕ) → List ℕ
 unfolding passing monthAt
-monthDays long bymonth from end = passing (monthAt long bymonth) (end - from) from
+monthDays table bymonth from end = passing (monthAt table bymonth) (end - from) from
 
 unfoldable pub yearDays : Bool → Bool → (byyearday : List Bool) → (from end : ℕ) → List ℕ
 unfolding passing yeardayAt

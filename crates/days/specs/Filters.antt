@@ -3,15 +3,15 @@
 use Prim.Native.Nat.{ℕ, _+_}
 use mathlib.Core.Bool.{Bool, false, not, _&&_, _||_}
 use mathlib.Core.List.{List}
-use lib.IntN.{pos}
+use lib.IntN.{pos, negℤ}
 use lib.ListN.{getD}
-use Rattle.calendar.specs.Calendar.{tableDay, weekday}
+use Rattle.calendar.specs.Calendar.{weekday}
 use Rattle.rule.specs.Lists.{months, monthdays, yeardays, isIn, isPairIn}
 use Rattle.rule.specs.declared.rrule.Rule.{Rule}
 use Rattle.rule.specs.Days.{eitherEnd}
-use Rattle.weeks.specs.declared.yearinfo.Year.{Year}
 use Rattle.nths.specs.Masks.{inTables, yearDayAt, yearLengthAt}
 use Rattle.years.specs.declared.lists.Asked.{Asked}
+use Rattle.years.specs.declared.iterinfo.IterInfo.{IterInfo}
 
 -- the day lists that are asked by the date
 pub record DayLists : Type 0 where
@@ -31,14 +31,24 @@ ruleLists r = dayLists (r .bymonth) (r .bymonthday) (r .byyearday) (r .byday)
 abbrev pub whereAsked : Bool → Bool → Bool
 whereAsked a b = not a || b
 
--- each list's test at place i, in document 01's order
-unfoldable pub monthAt : Bool → List Bool → ℕ → Bool
-unfolding isIn tableDay
-monthAt long s i = isIn months s (pos (tableDay long i .month))
+-- a month is in BYMONTH; a day of the month, and one from the month's end, is in BYMONTHDAY
+abbrev pub hasMonth : List Bool → ℕ → Bool
+hasMonth s month = isIn months s (pos month)
 
-unfoldable pub monthdayAt : Bool → List Bool → ℕ → Bool
-unfolding eitherEnd tableDay
-monthdayAt long s i = eitherEnd monthdays s (tableDay long i .day) (tableDay long i .length)
+abbrev pub hasDay : List Bool → ℕ → Bool
+hasDay s day = isIn monthdays s (pos day)
+
+abbrev pub hasLeft : List Bool → ℕ → Bool
+hasLeft s left = isIn monthdays s (negℤ (pos left))
+
+-- each list's test at place i, in document 01's order; of the date it sees what the year's tables have there
+unfoldable pub monthAt : (table : List ℕ) → List Bool → ℕ → Bool
+unfolding isIn
+monthAt table s i = hasMonth s (getD table i 0)
+
+unfoldable pub monthdayAt : (days ends : List ℕ) → List Bool → ℕ → Bool
+unfolding isIn
+monthdayAt days ends s i = hasDay s (getD days i 0) || hasLeft s (getD ends i 0)
 
 unfoldable pub yeardayAt : Bool → Bool → List Bool → ℕ → Bool
 unfolding eitherEnd yearDayAt yearLengthAt
@@ -50,12 +60,12 @@ unfolding isPairIn
 weekdayAt nth first s nths i = isPairIn s (pos 0) (pos (weekday (first + i))) || (nth && getD nths i false)
 
 -- The place lies in the tables, and its day passes every list that is asked.
-unfoldable pub placePasses : Asked → Year → DayLists → (weeks nths : List Bool) → ℕ → Bool
+unfoldable pub placePasses : Asked → IterInfo → DayLists → ℕ → Bool
 unfolding monthAt monthdayAt yeardayAt weekdayAt
-placePasses a y l weeks nths i =
-    inTables (y .long) i
-    && (whereAsked (a .month) (monthAt (y .long) (l .bymonth) i)
-    && (whereAsked (a .monthday) (monthdayAt (y .long) (l .bymonthday) i)
-    && (whereAsked (a .yearday) (yeardayAt (y .long) (y .nextlong) (l .byyearday) i)
-    && (whereAsked (a .weekno) (getD weeks i false)
-    && whereAsked (a .day) (weekdayAt (a .nth) (y .first) (l .byday) nths i)))))
+placePasses a info l i =
+    inTables (info .year .long) i
+    && (whereAsked (a .month) (monthAt (info .months) (l .bymonth) i)
+    && (whereAsked (a .monthday) (monthdayAt (info .monthdays) (info .fromends) (l .bymonthday) i)
+    && (whereAsked (a .yearday) (yeardayAt (info .year .long) (info .year .nextlong) (l .byyearday) i)
+    && (whereAsked (a .weekno) (getD (info .weeks) i false)
+    && whereAsked (a .day) (weekdayAt (a .nth) (info .year .first) (l .byday) (info .nths) i)))))

@@ -1,7 +1,6 @@
 // The filters of a day set, in document 01's order. Each asks its list only where there is one.
 use crate::places::is_past;
 use crate::places::weekday_at;
-use calendar::masks;
 use nths::places::year_day;
 use nths::places::year_day_from_end;
 use weeks::yearinfo::Year;
@@ -11,35 +10,76 @@ ghost use mathlib.Core.Bool.{false, not, _&&_, _||_};
 ghost use Prim.Native.Nat.{_+_, _<_};
 ghost use lib.ListN.{getD};
 ghost use Rattle.calendar.specs.Calendar.{daysOf};
-ghost use Rattle.days.specs.Filters.{whereAsked, monthAt, monthdayAt, yeardayAt, weekdayAt, dayLists, placePasses};
+ghost use Rattle.years.specs.Info.{infoBy};
+ghost use Rattle.days.specs.Filters.{whereAsked, hasMonth, hasDay, hasLeft, monthAt, monthdayAt, yeardayAt, weekdayAt, dayLists, placePasses};
 
-pub(crate) fn is_filtered_by_month(
-    asked: bool,
-    long: bool,
-    place: usize,
-    bymonth: &[bool; 12],
-) -> bool
-    requires { ⌜ place < daysOf long + 7 ⌝ }
-    ensures { λ r. ⌜ r ≡ not (whereAsked asked (monthAt long (now (bymonth .entry)) place)) ⌝ }
+// Whether BYMONTH has a month, and BYMONTHDAY a day of the month or one from the month's end.
+fn has_month(bymonth: &[bool; 12], month: u8) -> bool
+    ensures { λ r. ⌜ r ≡ hasMonth (now (bymonth .entry)) month ⌝ }
 {
-    if !asked {
+    if month == 0 {
         return false;
     }
-    let month = masks::month_of_place(long, place) as usize;
-    !bymonth[month - 1]
+    if 12 < month {
+        return false;
+    }
+    bymonth[(month - 1) as usize]
 }
 
-fn is_filtered_by_month_day(asked: bool, long: bool, place: usize, bymonthday: &[bool; 62]) -> bool
-    requires { ⌜ place < daysOf long + 7 ⌝ }
-    ensures { λ r. ⌜ r ≡ not (whereAsked asked (monthdayAt long (now (bymonthday .entry)) place)) ⌝ }
+fn has_day(bymonthday: &[bool; 62], day: u8) -> bool
+    ensures { λ r. ⌜ r ≡ hasDay (now (bymonthday .entry)) day ⌝ }
+{
+    if day == 0 {
+        return false;
+    }
+    if 31 < day {
+        return false;
+    }
+    bymonthday[(30 + day) as usize]
+}
+
+fn has_left(bymonthday: &[bool; 62], left: u8) -> bool
+    ensures { λ r. ⌜ r ≡ hasLeft (now (bymonthday .entry)) left ⌝ }
+{
+    if left == 0 {
+        return false;
+    }
+    if 31 < left {
+        return false;
+    }
+    bymonthday[(31 - left) as usize]
+}
+
+// The month and the month day of a place are read of the year's tables.
+pub(crate) fn is_filtered_by_month(
+    asked: bool,
+    place: usize,
+    bymonth: &[bool; 12],
+    months: &[u8; 373],
+) -> bool
+    requires { ⌜ place < 373 ⌝ }
+    ensures { λ r. ⌜ r ≡ not (whereAsked asked (monthAt (now (months .entry)) (now (bymonth .entry)) place)) ⌝ }
 {
     if !asked {
         return false;
     }
-    let at = masks::day_of_place(long, place);
-    let day = at.day as usize;
-    let left = at.left as usize;
-    !(bymonthday[30 + day] | bymonthday[31 - left])
+    !has_month(bymonth, months[place])
+}
+
+fn is_filtered_by_month_day(
+    asked: bool,
+    place: usize,
+    bymonthday: &[bool; 62],
+    monthdays: &[u8; 373],
+    fromends: &[u8; 373],
+) -> bool
+    requires { ⌜ place < 373 ⌝ }
+    ensures { λ r. ⌜ r ≡ not (whereAsked asked (monthdayAt (now (monthdays .entry)) (now (fromends .entry)) (now (bymonthday .entry)) place)) ⌝ }
+{
+    if !asked {
+        return false;
+    }
+    !(has_day(bymonthday, monthdays[place]) | has_left(bymonthday, fromends[place]))
 }
 
 pub(crate) fn is_filtered_by_year_day(
@@ -110,17 +150,20 @@ pub fn is_filtered<'a, 'b>(
     bymonthday: &'a [bool; 62],
     byyearday: &'a [bool; 732],
     byday: &'a [bool; 749],
+    months: &'b [u8; 373],
+    monthdays: &'b [u8; 373],
+    fromends: &'b [u8; 373],
     weeks: &'b [bool; 373],
     nths: &'b [bool; 373],
 ) -> bool
-    ensures { λ r. ⌜ r ≡ not (placePasses asked year (dayLists (now (bymonth .entry)) (now (bymonthday .entry)) (now (byyearday .entry)) (now (byday .entry))) (now (weeks .entry)) (now (nths .entry)) place) ⌝ }
+    ensures { λ r. ⌜ r ≡ not (placePasses asked (infoBy year (now (months .entry)) (now (monthdays .entry)) (now (fromends .entry)) (now (weeks .entry)) (now (nths .entry))) (dayLists (now (bymonth .entry)) (now (bymonthday .entry)) (now (byyearday .entry)) (now (byday .entry))) place) ⌝ }
 {
     let long = year.long;
     if is_past(long, place) {
         return true;
     }
-    is_filtered_by_month(asked.month, long, place, bymonth)
-        | (is_filtered_by_month_day(asked.monthday, long, place, bymonthday)
+    is_filtered_by_month(asked.month, place, bymonth, months)
+        | (is_filtered_by_month_day(asked.monthday, place, bymonthday, monthdays, fromends)
             | (is_filtered_by_year_day(asked.yearday, long, year.nextlong, place, byyearday)
                 | (is_filtered_by_week_number(asked.weekno, place, weeks)
                     | is_filtered_by_weekday(

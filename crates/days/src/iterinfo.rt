@@ -12,6 +12,7 @@ ghost use mathlib.Core.Path.{_≡_};
 ghost use Prim.Native.Nat.{_+_, _≤_, min};
 ghost use lib.ListN.{length};
 ghost use lib.Seq.{sets};
+ghost use Rattle.years.specs.Info.{infoBy};
 ghost use Rattle.days.specs.Filters.{dayLists};
 ghost use Rattle.calendar.specs.Calendar.{daysOf};
 ghost use Rattle.days.specs.DaySets.{daySet, isPlain, isMonthAlone, isMixed, isBlank, FirstMarked, hasEvery, allDays, markedDays, monthDays, yearDays, weekdayDays};
@@ -33,12 +34,15 @@ fn filtered_days<'a, 'b>(
     bymonthday: &'a [bool; 62],
     byyearday: &'a [bool; 732],
     byday: &'a [bool; 749],
+    months: &'b [u8; 373],
+    monthdays: &'b [u8; 373],
+    fromends: &'b [u8; 373],
     weeks: &'b [bool; 373],
     nths: &'b [bool; 373],
     days: &mut [u16; 373],
 ) -> usize
-    ensures count { λ r. ⌜ r ≡ length (daySet asked year (dayLists (now (bymonth .entry)) (now (bymonthday .entry)) (now (byyearday .entry)) (now (byday .entry))) (now (weeks .entry)) (now (nths .entry)) from to) ⌝ }
-    ensures places { λ r. ⌜ now (days .exit) ≡ sets (now (days .entry)) 0 (daySet asked year (dayLists (now (bymonth .entry)) (now (bymonthday .entry)) (now (byyearday .entry)) (now (byday .entry))) (now (weeks .entry)) (now (nths .entry)) from to) ⌝ }
+    ensures count { λ r. ⌜ r ≡ length (daySet asked (infoBy year (now (months .entry)) (now (monthdays .entry)) (now (fromends .entry)) (now (weeks .entry)) (now (nths .entry))) (dayLists (now (bymonth .entry)) (now (bymonthday .entry)) (now (byyearday .entry)) (now (byday .entry))) from to) ⌝ }
+    ensures places { λ r. ⌜ now (days .exit) ≡ sets (now (days .entry)) 0 (daySet asked (infoBy year (now (months .entry)) (now (monthdays .entry)) (now (fromends .entry)) (now (weeks .entry)) (now (nths .entry))) (dayLists (now (bymonth .entry)) (now (bymonthday .entry)) (now (byyearday .entry)) (now (byday .entry))) from to) ⌝ }
 {
     let end = table_end(to);
     let mut count: usize = 0;
@@ -51,6 +55,9 @@ fn filtered_days<'a, 'b>(
             bymonthday,
             byyearday,
             byday,
+            months,
+            monthdays,
+            fromends,
             weeks,
             nths,
         ) {
@@ -186,19 +193,19 @@ fn marked_days(marks: &[bool; 373], from: usize, end: usize, days: &mut [u16; 37
 
 // The places of a stretch that pass BYMONTH.
 fn month_days(
-    long: bool,
     from: usize,
     end: usize,
     bymonth: &[bool; 12],
+    months: &[u8; 373],
     days: &mut [u16; 373],
 ) -> usize
-    requires { ⌜ (end ≤ 373) × (end ≤ daysOf long + 7) ⌝ }
-    ensures count { λ r. ⌜ r ≡ length (monthDays long (now (bymonth .entry)) from end) ⌝ }
-    ensures places { λ r. ⌜ now (days .exit) ≡ sets (now (days .entry)) 0 (monthDays long (now (bymonth .entry)) from end) ⌝ }
+    requires { ⌜ end ≤ 373 ⌝ }
+    ensures count { λ r. ⌜ r ≡ length (monthDays (now (months .entry)) (now (bymonth .entry)) from end) ⌝ }
+    ensures places { λ r. ⌜ now (days .exit) ≡ sets (now (days .entry)) 0 (monthDays (now (months .entry)) (now (bymonth .entry)) from end) ⌝ }
 {
     let mut taken: usize = 0;
     for place in from..end {
-        if is_filtered_by_month(true, long, place, bymonth) {
+        if is_filtered_by_month(true, place, bymonth, months) {
             continue;
         }
         days[taken] = place as u16;
@@ -213,12 +220,13 @@ pub fn days_by_month(
     from: usize,
     to: usize,
     bymonth: &[bool; 12],
+    months: &[u8; 373],
     days: &mut [u16; 373],
 ) -> usize
-    ensures count { λ r. ⌜ r ≡ length (monthDays long (now (bymonth .entry)) from (min to (daysOf long + 7))) ⌝ }
-    ensures places { λ r. ⌜ now (days .exit) ≡ sets (now (days .entry)) 0 (monthDays long (now (bymonth .entry)) from (min to (daysOf long + 7))) ⌝ }
+    ensures count { λ r. ⌜ r ≡ length (monthDays (now (months .entry)) (now (bymonth .entry)) from (min to (daysOf long + 7))) ⌝ }
+    ensures places { λ r. ⌜ now (days .exit) ≡ sets (now (days .entry)) 0 (monthDays (now (months .entry)) (now (bymonth .entry)) from (min to (daysOf long + 7))) ⌝ }
 {
-    month_days(long, from, stretch_end(long, to), bymonth, days)
+    month_days(from, stretch_end(long, to), bymonth, months, days)
 }
 
 // The places of a stretch that pass BYYEARDAY.
@@ -287,12 +295,15 @@ pub fn get_dayset<'a, 'b>(
     bymonthday: &'a [bool; 62],
     byyearday: &'a [bool; 732],
     byday: &'a [bool; 749],
+    months: &'b [u8; 373],
+    monthdays: &'b [u8; 373],
+    fromends: &'b [u8; 373],
     weeks: &'b [bool; 373],
     nths: &'b [bool; 373],
     days: &mut [u16; 373],
 ) -> usize
-    ensures count { λ r. ⌜ r ≡ length (daySet asked year (dayLists (now (bymonth .entry)) (now (bymonthday .entry)) (now (byyearday .entry)) (now (byday .entry))) (now (weeks .entry)) (now (nths .entry)) from to) ⌝ }
-    ensures places { λ r. ⌜ now (days .exit) ≡ sets (now (days .entry)) 0 (daySet asked year (dayLists (now (bymonth .entry)) (now (bymonthday .entry)) (now (byyearday .entry)) (now (byday .entry))) (now (weeks .entry)) (now (nths .entry)) from to) ⌝ }
+    ensures count { λ r. ⌜ r ≡ length (daySet asked (infoBy year (now (months .entry)) (now (monthdays .entry)) (now (fromends .entry)) (now (weeks .entry)) (now (nths .entry))) (dayLists (now (bymonth .entry)) (now (bymonthday .entry)) (now (byyearday .entry)) (now (byday .entry))) from to) ⌝ }
+    ensures places { λ r. ⌜ now (days .exit) ≡ sets (now (days .entry)) 0 (daySet asked (infoBy year (now (months .entry)) (now (monthdays .entry)) (now (fromends .entry)) (now (weeks .entry)) (now (nths .entry))) (dayLists (now (bymonth .entry)) (now (bymonthday .entry)) (now (byyearday .entry)) (now (byday .entry))) from to) ⌝ }
 {
     if is_plain(asked) {
         return plain_days(year.long, from, to, days);
@@ -308,13 +319,16 @@ pub fn get_dayset<'a, 'b>(
             bymonthday,
             byyearday,
             byday,
+            months,
+            monthdays,
+            fromends,
             weeks,
             nths,
             days,
         );
     }
     if asked.month {
-        return month_days(year.long, from, end, bymonth, days);
+        return month_days(from, end, bymonth, months, days);
     }
     if asked.yearday {
         return year_days(year.long, year.nextlong, from, end, byyearday, days);

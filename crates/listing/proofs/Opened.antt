@@ -129,7 +129,7 @@ module _ (r : Rule) (fit : Good r) (k : ℕ) (inside : inRange r k ≡ true) (y 
 
   -- there are at most 373, each below 373
   abbrev passes : ℕ → Bool
-  passes = placePasses (askedOf r) (ruleInfo r y .year) (ruleLists r) (ruleInfo r y .weeks) (ruleInfo r y .nths)
+  passes = placePasses (askedOf r) (ruleInfo r y) (ruleLists r)
 
   few : length ds ≤ 373
   unfolding daySet

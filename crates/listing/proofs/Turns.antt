@@ -188,18 +188,18 @@ module _ (walk-by-bounds : (g : Given ℕ) (b : Bounds) → g .start ≡ b .star
         subst (λ (x : Plan). counter .tick < ticks (x .freq)) (sym p)
         (subst (λ (x : Counter). x .tick < ticks (r .freq)) (sym (a .counted)) (opened .tick-below))
 
-    set-is : daySet (plan .asked) (info .year) (ruleLists r) (info .weeks) (info .nths) (span .from - info .year .first) (span .to - info .year .first)
+    set-is : daySet (plan .asked) info (ruleLists r) (span .from - info .year .first) (span .to - info .year .first)
         ≡ daySetOf r (counter .k) (a .y)
     unfolding planOf
     set-is =
-        ap (λ (n : ℕ). daySet (plan .asked) (info .year) (ruleLists r) (info .weeks) (info .nths) (span .from - n) (span .to - n)) first-is
-        ∙ ap (λ (x : Days). daySet (plan .asked) (info .year) (ruleLists r) (info .weeks) (info .nths) (x .from - newYear (a .y)) (x .to - newYear (a .y))) span-is
-        ∙ ap (λ (x : IterInfo). daySet (plan .asked) (x .year) (ruleLists r) (x .weeks) (x .nths) (spanOf r (counter .k) .from - newYear (a .y)) (spanOf r (counter .k) .to - newYear (a .y))) (a .year)
-        ∙ ap (λ (x : Plan). daySet (x .asked) (ruleInfo r (a .y) .year) (ruleLists r) (ruleInfo r (a .y) .weeks) (ruleInfo r (a .y) .nths) (spanOf r (counter .k) .from - newYear (a .y)) (spanOf r (counter .k) .to - newYear (a .y))) p
+        ap (λ (n : ℕ). daySet (plan .asked) info (ruleLists r) (span .from - n) (span .to - n)) first-is
+        ∙ ap (λ (x : Days). daySet (plan .asked) info (ruleLists r) (x .from - newYear (a .y)) (x .to - newYear (a .y))) span-is
+        ∙ ap (λ (x : IterInfo). daySet (plan .asked) x (ruleLists r) (spanOf r (counter .k) .from - newYear (a .y)) (spanOf r (counter .k) .to - newYear (a .y))) (a .year)
+        ∙ ap (λ (x : Plan). daySet (x .asked) (ruleInfo r (a .y)) (ruleLists r) (spanOf r (counter .k) .from - newYear (a .y)) (spanOf r (counter .k) .to - newYear (a .y))) p
 
     module _ (count : ℕ) (days′ : List ℕ)
-        (counts : count ≡ length (daySet (plan .asked) (info .year) (ruleLists r) (info .weeks) (info .nths) (span .from - info .year .first) (span .to - info .year .first)))
-        (fills : days′ ≡ sets days 0 (daySet (plan .asked) (info .year) (ruleLists r) (info .weeks) (info .nths) (span .from - info .year .first) (span .to - info .year .first)))
+        (counts : count ≡ length (daySet (plan .asked) info (ruleLists r) (span .from - info .year .first) (span .to - info .year .first)))
+        (fills : days′ ≡ sets days 0 (daySet (plan .asked) info (ruleLists r) (span .from - info .year .first) (span .to - info .year .first)))
         (frame : Frame) (frames : frame ≡ frameOf (plan .freq) (plan .counts) (counter .tick) (info .year .first) count (plan .clock)) where
       count-is : count ≡ length (daySetOf r (counter .k) (a .y))
       count-is = counts ∙ ap length set-is

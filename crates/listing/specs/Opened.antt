@@ -35,7 +35,7 @@ spanOf r k = daysIn (r .freq) (dayOf (second (r .start))) (counterAt r k .number
 -- those of them that pass, as places in the year y
 abbrev pub daySetOf : Rule → (k y : ℕ) → List ℕ
 daySetOf r k y =
-    daySet (askedOf r) (ruleInfo r y .year) (ruleLists r) (ruleInfo r y .weeks) (ruleInfo r y .nths) (spanOf r k .from - newYear y) (spanOf r k .to - newYear y)
+    daySet (askedOf r) (ruleInfo r y) (ruleLists r) (spanOf r k .from - newYear y) (spanOf r k .to - newYear y)
 
 -- its frame in that year
 abbrev pub frameIn : Rule → (k y : ℕ) → Frame

@@ -36,7 +36,7 @@ counterIn Reached.Range = record { k = 0; number = 0; tick = 0 }
 -- the passing days of a stretch, as places in the year y
 unfoldable pub placesOf : Asked → IterInfo → DayLists → Days → ℕ → List ℕ
 unfolding daySet
-placesOf a info l span y = daySet a (info .year) l (info .weeks) (info .nths) (span .from - newYear y) (span .to - newYear y)
+placesOf a info l span y = daySet a info l (span .from - newYear y) (span .to - newYear y)
 
 -- the same in the year of its first day
 unfoldable pub placesFrom : Asked → Bool → ℕ → Days → DayLists → (weeknos : List Bool) → List ℕ

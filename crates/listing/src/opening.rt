@@ -19,6 +19,7 @@ ghost use Prim.Native.Nat.{_/_, _≤_, _<_};
 ghost use lib.ListN.{length};
 ghost use lib.Seq.{sets};
 ghost use Rattle.rule.specs.Moves.{ticks};
+ghost use Rattle.years.specs.Info.{infoBy};
 ghost use Rattle.days.specs.Filters.{dayLists};
 ghost use Rattle.days.specs.DaySets.{daySet};
 ghost use Rattle.walks.specs.Walks.{secondAt};
@@ -45,18 +46,21 @@ pub(crate) fn period_days<'a, 'b>(
     bymonthday: &'a [bool; 62],
     byyearday: &'a [bool; 732],
     byday: &'a [bool; 749],
+    months: &'b [u8; 373],
+    monthdays: &'b [u8; 373],
+    fromends: &'b [u8; 373],
     weeks: &'b [bool; 373],
     nths: &'b [bool; 373],
     days: &mut [u16; 373],
 ) -> usize
-    ensures count { λ r. ⌜ r ≡ length (daySet asked year (dayLists (now (bymonth .entry)) (now (bymonthday .entry)) (now (byyearday .entry)) (now (byday .entry))) (now (weeks .entry)) (now (nths .entry)) from to) ⌝ }
-    ensures places { λ r. ⌜ now (days .exit) ≡ sets (now (days .entry)) 0 (daySet asked year (dayLists (now (bymonth .entry)) (now (bymonthday .entry)) (now (byyearday .entry)) (now (byday .entry))) (now (weeks .entry)) (now (nths .entry)) from to) ⌝ }
+    ensures count { λ r. ⌜ r ≡ length (daySet asked (infoBy year (now (months .entry)) (now (monthdays .entry)) (now (fromends .entry)) (now (weeks .entry)) (now (nths .entry))) (dayLists (now (bymonth .entry)) (now (bymonthday .entry)) (now (byyearday .entry)) (now (byday .entry))) from to) ⌝ }
+    ensures places { λ r. ⌜ now (days .exit) ≡ sets (now (days .entry)) 0 (daySet asked (infoBy year (now (months .entry)) (now (monthdays .entry)) (now (fromends .entry)) (now (weeks .entry)) (now (nths .entry))) (dayLists (now (bymonth .entry)) (now (bymonthday .entry)) (now (byyearday .entry)) (now (byday .entry))) from to) ⌝ }
 {
     if is_plain(asked) {
         return plain_days(year.long, from, to, days);
     }
     if is_month_alone(asked) {
-        return days_by_month(year.long, from, to, bymonth, days);
+        return days_by_month(year.long, from, to, bymonth, months, days);
     }
     get_dayset(
         asked,
@@ -67,6 +71,9 @@ pub(crate) fn period_days<'a, 'b>(
         bymonthday,
         byyearday,
         byday,
+        months,
+        monthdays,
+        fromends,
         weeks,
         nths,
         days,

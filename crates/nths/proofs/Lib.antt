@@ -3,4 +3,3 @@ pub mod NthLaws
 pub mod OneAnswer
 pub mod Rows
 pub mod Slots
-pub mod StandLaws

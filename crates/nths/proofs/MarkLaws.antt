@@ -9,18 +9,16 @@ use lib.Seq.{ext-getD, getD-set-same, getD-set-other}
 use native.Mathlib.Omega.{arith}
 use native.Mathlib.Decide.{decLt, ℕ-discrete}
 use borrow.Author.Tests.{lt-ltb, le-ltb}
-use Rattle.calendar.specs.Calendar.{daysOf, weekday}
+use Rattle.calendar.specs.Calendar.{daysOf, MonthDay, tableDay, fromEnd, weekday}
 use Rattle.rule.specs.Lists.{flags}
 use Rattle.rule.specs.Days.{nthPasses}
 use Rattle.rule.proofs.SetLaws.{flags-at}
 use Rattle.weeks.specs.declared.yearinfo.Year.{Year}
-use Rattle.nths.specs.declared.monthinfo.Stand.{Stand}
 use Rattle.nths.specs.Masks.{yearDayAt, yearLengthAt, nthAt, nthMask}
-use Rattle.nths.specs.Stands.{standAt, NoEntry, Marked}
-use Rattle.nths.proofs.Rows.{year-day}
+use Rattle.nths.specs.Marks.{NoEntry, Marked}
+use Rattle.nths.proofs.Rows.{row, year-day}
 use Rattle.nths.proofs.Slots.{nth-slots}
-use Rattle.nths.proofs.NthLaws.{nth-past, nth-in-year}
-use Rattle.nths.proofs.StandLaws.{InMonth, in-month, passes-at}
+use Rattle.nths.proofs.NthLaws.{nth-past, nth-in-year, nth-in-month}
 
 -- no row is read yet; one more is; all are
 pub no-rows : (s : List Bool) (w from : ℕ) → NoEntry s w from from
@@ -50,10 +48,10 @@ none-passes s w p l from to hw a b c d x y f =
 
 none-in-month : (y : Year) (s : List Bool) (i : ℕ) → i < daysOf (y .long) + 7 → NoEntry s (weekday (y .first + i)) 48 59 → nthAt false y s i ≡ false
 none-in-month y s i h n =
-    let p : Stand = standAt (y .long) i in
-    let m : InMonth p = in-month (y .long) i p h refl in
-    sym (passes-at y s i (weekday (y .first + i)) p h refl refl)
-    ∙ none-passes s (weekday (y .first + i)) (p .day) (p .left) 48 59 (omega arith) (omega arith) (omega arith) (omega arith) (omega arith)
+    let p : MonthDay = tableDay (y .long) i in
+    let m = row (y .long) i h in
+    sym (nth-in-month y s i (weekday (y .first + i)) (p .day) (fromEnd p) (lt-ltb i (daysOf (y .long) + 7) h) refl refl refl)
+    ∙ none-passes s (weekday (y .first + i)) (p .day) (fromEnd p) 48 59 (omega arith) (omega arith) (omega arith) (omega arith) (omega arith)
     (omega arith) (omega arith) n
 
 none-in-year : (y : Year) (s : List Bool) (i : ℕ) → i < daysOf (y .long) + 7 → NoEntry s (weekday (y .first + i)) 0 107 → nthAt true y s i ≡ false

@@ -1,2 +1,2 @@
+pub mod Marks
 pub mod Masks
-pub mod Stands

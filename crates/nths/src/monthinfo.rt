@@ -2,16 +2,17 @@
 // that it passes.
 use crate::places::year_day;
 use crate::places::year_day_from_end;
-use calendar::masks::month_length;
+use calendar::masks::month_day_from_end_table;
+use calendar::masks::month_day_table;
 use weeks::yearinfo::Year;
 ghost use mathlib.Core.Path.{_≡_};
 ghost use mathlib.Core.Bool.{true, false};
 ghost use Prim.Native.Nat.{_+_, _-_, _%_, _≤_, _<_};
 ghost use lib.ListN.{length};
-ghost use Rattle.calendar.specs.Calendar.{daysOf};
+ghost use Rattle.calendar.specs.Calendar.{daysOf, monthDayTable, fromEndTable};
 ghost use Rattle.rule.specs.Days.{nthPasses};
 ghost use Rattle.nths.specs.Masks.{nthAt, nthMask};
-ghost use Rattle.nths.specs.Stands.{monthAfter, weekLater, NoEntry, Marked};
+ghost use Rattle.nths.specs.Marks.{NoEntry, Marked};
 
 // Whether a day passes an nth entry: its place in its month or year, counted from 1, and the same from the end.
 fn nth_passes(byday: &[bool; 749], weekday: usize, place: usize, left: usize) -> bool
@@ -79,55 +80,23 @@ fn year_mask(year: Year, byday: &[bool; 749]) -> [bool; 373]
     mask
 }
 
-// Where a day stands: its month, its place in it counted from 1, and the same from the month's end.
-struct Stand {
-    month: u8,
-    day: usize,
-    left: usize,
-}
-
-fn month_after(month: u8) -> u8
-    ensures { λ r. ⌜ r ≡ monthAfter month ⌝ }
-{
-    if month < 12 { month + 1 } else { 1 }
-}
-
-// The stand a week later. Stepping is cheaper than reading the year's tables at each place.
-fn week_later(long: bool, at: Stand) -> Stand
-    requires { ⌜ (at .day ≤ 31) × (1 ≤ at .left) ⌝ }
-    ensures { λ r. ⌜ r ≡ weekLater long at ⌝ }
-{
-    if 7 < at.left {
-        return Stand {
-            month: at.month,
-            day: at.day + 7,
-            left: at.left - 7,
-        };
-    }
-    let month = month_after(at.month);
-    let left = month_length(long, month) as usize + at.left - 7;
-    Stand {
-        month,
-        day: 8 - at.left,
-        left,
-    }
-}
-
-// The same where they count in the month.
-fn mark_in_month(year: Year, byday: &[bool; 749], weekday: usize, mask: &mut [bool; 373])
-    requires { ⌜ (weekday < 7) × (length (now mask) ≡ 373) ⌝ }
+// The same where they count in the month. The day of the month and that from the month's end are read of the year's tables.
+fn mark_in_month<'a>(
+    year: Year,
+    byday: &[bool; 749],
+    weekday: usize,
+    monthdays: &'a [u8; 373],
+    fromends: &'a [u8; 373],
+    mask: &mut [bool; 373],
+)
+    requires { ⌜ (weekday < 7) × (length (now mask) ≡ 373) × (now monthdays ≡ monthDayTable (year .long)) × (now fromends ≡ fromEndTable (year .long)) ⌝ }
     ensures { λ _. ⌜ Marked (nthAt false year (now (byday .entry))) (year .first) weekday (daysOf (year .long) + 7) (now (mask .entry)) (now (mask .exit)) ⌝ }
 {
-    let end = places_of(year.long);
     let mut place = first_place(year.first, weekday);
-    let mut at = Stand {
-        month: 1,
-        day: place + 1,
-        left: 31 - place,
-    };
-    while place < end {
-        mask[place] = nth_passes(byday, weekday, at.day, at.left);
-        at = week_later(year.long, at);
+    while place < places_of(year.long) {
+        let day = monthdays[place] as usize;
+        let left = fromends[place] as usize;
+        mask[place] = nth_passes(byday, weekday, day, left);
         place += 7;
     }
 }
@@ -136,12 +105,14 @@ fn mark_in_month(year: Year, byday: &[bool; 749], weekday: usize, mask: &mut [bo
 fn month_mask(year: Year, byday: &[bool; 749]) -> [bool; 373]
     ensures { λ r. ⌜ r ≡ nthMask false year (now (byday .entry)) ⌝ }
 {
+    let monthdays = month_day_table(year.long);
+    let fromends = month_day_from_end_table(year.long);
     let mut mask = [false; 373];
     for weekday in 0..7 {
         if !has_entry(byday, weekday, 48, 59) {
             continue;
         }
-        mark_in_month(year, byday, weekday, &mut mask);
+        mark_in_month(year, byday, weekday, &monthdays, &fromends, &mut mask);
     }
     mask
 }

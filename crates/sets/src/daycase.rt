@@ -82,6 +82,9 @@ pub(crate) fn set_of(case: Case, period: Period) -> Set {
     let bymonthday = case.rule.bymonthday;
     let byyearday = case.rule.byyearday;
     let byday = case.rule.byday;
+    let months = case.info.months;
+    let monthdays = case.info.monthdays;
+    let fromends = case.info.fromends;
     let weeks = case.info.weeks;
     let nths = case.info.nths;
     let mut places = [FILLER; PLACES];
@@ -94,6 +97,9 @@ pub(crate) fn set_of(case: Case, period: Period) -> Set {
         &bymonthday,
         &byyearday,
         &byday,
+        &months,
+        &monthdays,
+        &fromends,
         &weeks,
         &nths,
         &mut places,
@@ -108,6 +114,9 @@ pub(crate) fn is_filtered(case: Case, place: usize) -> bool {
     let bymonthday = case.rule.bymonthday;
     let byyearday = case.rule.byyearday;
     let byday = case.rule.byday;
+    let months = case.info.months;
+    let monthdays = case.info.monthdays;
+    let fromends = case.info.fromends;
     let weeks = case.info.weeks;
     let nths = case.info.nths;
     filters::is_filtered(
@@ -118,6 +127,9 @@ pub(crate) fn is_filtered(case: Case, place: usize) -> bool {
         &bymonthday,
         &byyearday,
         &byday,
+        &months,
+        &monthdays,
+        &fromends,
         &weeks,
         &nths,
     )

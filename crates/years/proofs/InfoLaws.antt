@@ -1,30 +1,55 @@
--- The masks of a year, made where they are asked for, and the year with them.
+-- The tables and masks of a year, made where they are asked for, and the year with them.
 -- Assumes nothing.
 use Prim.Native.Nat.{ℕ}
 use mathlib.Core.Path.{_≡_, ap, _∙_}
-use mathlib.Core.Bool.{Bool, true, false}
+use mathlib.Core.Bool.{Bool, true, false, _||_}
 use mathlib.Core.List.{List}
 use lib.ListN.{replicate}
+use borrow.Author.Tests.{not-true}
+use Rattle.calendar.specs.Calendar.{monthTable, monthDayTable, fromEndTable}
+use Rattle.rule.proofs.GivenLaws.{neither}
 use Rattle.weeks.specs.declared.yearinfo.Year.{Year}
 use Rattle.weeks.specs.Weeks.{yearInfo, weekMask}
 use Rattle.nths.specs.Masks.{nthMask}
 use Rattle.years.specs.declared.lists.Asked.{Asked}
 use Rattle.years.specs.declared.iterinfo.IterInfo.{IterInfo}
-use Rattle.years.specs.Info.{maskWhere, infoOf}
+use Rattle.years.specs.Info.{tableWhere, maskWhere, isBare, infoBy, infoOf}
 
--- a mask that is not asked for is blank, and one that is asked for is made
+-- what is not asked for is blank, and what is asked for is made
+pub table-blank : (a : Bool) (t : List ℕ) → a ≡ false → replicate 373 0 ≡ tableWhere a t
+table-blank a t h = rw h
+
+pub table-made : (a : Bool) (x t : List ℕ) → a ≡ true → x ≡ t → x ≡ tableWhere a t
+table-made a x t h e = rw h e
+
 pub mask-blank : (a : Bool) (m : List Bool) → a ≡ false → replicate 373 false ≡ maskWhere a m
 mask-blank a m h = rw h
 
 pub mask-made : (a : Bool) (x m : List Bool) → a ≡ true → x ≡ m → x ≡ maskWhere a m
 mask-made a x m h e = rw h e
 
-pub info-is : (a : Asked) (inyear : Bool) (wkst y : ℕ) (weeknos days : List Bool) (year : Year) (weeks nths : List Bool)
-    → year ≡ yearInfo y → weeks ≡ maskWhere (a .weekno) (weekMask wkst weeknos y) → nths ≡ maskWhere (a .nth) (nthMask inyear year days)
-    → record { year = year; weeks = weeks; nths = nths } ≡ infoOf a inyear wkst weeknos days y
-unfolding infoOf
-info-is a inyear wkst y weeknos days year weeks nths e f g = λ i. record {
-  year = e i;
-  weeks = f i;
-  nths = (g ∙ ap (λ (x : Year). maskWhere (a .nth) (nthMask inyear x days)) e) i;
-}
+module _ (a : Asked) (inyear : Bool) (wkst y : ℕ) (weeknos days : List Bool) (year : Year) (e : year ≡ yearInfo y) where
+  pub info-is : (months monthdays fromends : List ℕ) (weeks nths : List Bool)
+      → months ≡ tableWhere (a .month) (monthTable (year .long)) → monthdays ≡ tableWhere (a .monthday) (monthDayTable (year .long))
+      → fromends ≡ tableWhere (a .monthday) (fromEndTable (year .long))
+      → weeks ≡ maskWhere (a .weekno) (weekMask wkst weeknos y) → nths ≡ maskWhere (a .nth) (nthMask inyear year days)
+      → infoBy year months monthdays fromends weeks nths ≡ infoOf a inyear wkst weeknos days y
+  unfolding infoOf
+  info-is months monthdays fromends weeks nths m d l w n = λ i. record {
+    year = e i;
+    months = (m ∙ ap (λ (x : Year). tableWhere (a .month) (monthTable (x .long))) e) i;
+    monthdays = (d ∙ ap (λ (x : Year). tableWhere (a .monthday) (monthDayTable (x .long))) e) i;
+    fromends = (l ∙ ap (λ (x : Year). tableWhere (a .monthday) (fromEndTable (x .long))) e) i;
+    weeks = w i;
+    nths = (n ∙ ap (λ (x : Year). maskWhere (a .nth) (nthMask inyear x days)) e) i;
+  }
+
+  pub bare-is : isBare a ≡ true
+      → infoBy year (replicate 373 0) (replicate 373 0) (replicate 373 0) (replicate 373 false) (replicate 373 false) ≡ infoOf a inyear wkst weeknos days y
+  bare-is h =
+      let m = neither (a .month) (a .monthday || (a .weekno || a .nth)) (not-true _ h) in
+      let d = neither (a .monthday) (a .weekno || a .nth) (m .1) in
+      let w = neither (a .weekno) (a .nth) (d .1) in
+      info-is (replicate 373 0) (replicate 373 0) (replicate 373 0) (replicate 373 false) (replicate 373 false)
+      (table-blank (a .month) _ (m .0)) (table-blank (a .monthday) _ (d .0)) (table-blank (a .monthday) _ (d .0))
+      (mask-blank (a .weekno) _ (w .0)) (mask-blank (a .nth) _ (w .1))

@@ -1,15 +1,16 @@
 -- What the day test needs of a year, and of which year of which rule it is.
 -- Assumes nothing.
 use Prim.Native.Nat.{ℕ}
-use mathlib.Core.Bool.{Bool, false, not, _&&_}
+use mathlib.Core.Bool.{Bool, false, not, _&&_, _||_}
 use mathlib.Core.List.{List}
 use lib.ListN.{replicate}
-use Rattle.calendar.specs.Calendar.{if_then_else_}
+use Rattle.calendar.specs.Calendar.{if_then_else_, monthTable, monthDayTable, fromEndTable}
 use Rattle.rule.specs.declared.rrule.Frequency.{Frequency}
 use Rattle.rule.specs.declared.rrule.Rule.{Rule}
 use Rattle.rule.specs.Lists.{isEmpty}
 use Rattle.rule.specs.Records.{hasNth}
 use Rattle.rule.specs.Filling.{same}
+use Rattle.weeks.specs.declared.yearinfo.Year.{Year}
 use Rattle.weeks.specs.Weeks.{yearInfo, weekMask}
 use Rattle.nths.specs.Masks.{nthMask}
 use Rattle.years.specs.declared.lists.Asked.{Asked}
@@ -27,15 +28,30 @@ askedOf r = record {
   nth = hasNth (r .byday);
 }
 
--- A mask is made only where it is asked for; otherwise it is blank.
+-- A table or a mask is made only where it is asked for; otherwise it is blank.
+abbrev pub tableWhere : Bool → List ℕ → List ℕ
+tableWhere asked table = if asked then table else replicate 373 0
+
 abbrev pub maskWhere : Bool → List Bool → List Bool
 maskWhere asked mask = if asked then mask else replicate 373 false
 
--- the year y and its masks
+-- No table and no mask is asked for.
+abbrev pub isBare : Asked → Bool
+isBare a = not (a .month || (a .monthday || (a .weekno || a .nth)))
+
+-- a year with its tables and masks, each by itself
+abbrev pub infoBy : Year → (months monthdays fromends : List ℕ) → (weeks nths : List Bool) → IterInfo
+infoBy year months monthdays fromends weeks nths =
+    record { year = year; months = months; monthdays = monthdays; fromends = fromends; weeks = weeks; nths = nths }
+
+-- the year y with its tables and masks
 unfoldable pub infoOf : Asked → Bool → ℕ → (weeknos days : List Bool) → ℕ → IterInfo
 unfolding yearInfo weekMask nthMask
 infoOf a inyear wkst weeknos days y = record {
   year = yearInfo y;
+  months = tableWhere (a .month) (monthTable (yearInfo y .long));
+  monthdays = tableWhere (a .monthday) (monthDayTable (yearInfo y .long));
+  fromends = tableWhere (a .monthday) (fromEndTable (yearInfo y .long));
   weeks = maskWhere (a .weekno) (weekMask wkst weeknos y);
   nths = maskWhere (a .nth) (nthMask inyear (yearInfo y) days);
 }

@@ -1,19 +1,56 @@
-// A year and its masks, as the day test needs them.
+// A year with its tables and masks, as the day test needs them.
 use crate::lists::Asked;
+use calendar::masks::month_day_from_end_table;
+use calendar::masks::month_day_table;
+use calendar::masks::month_table;
 use nths::monthinfo::neg_weekday_mask;
 use weeks::yearinfo::Year;
 use weeks::yearinfo::week_no_mask;
 use weeks::yearinfo::year_info;
 ghost use mathlib.Core.Path.{_≡_};
+ghost use mathlib.Core.Bool.{false};
+ghost use lib.ListN.{replicate};
+ghost use Rattle.calendar.specs.Calendar.{monthTable, monthDayTable, fromEndTable};
 ghost use Rattle.weeks.specs.Weeks.{weekMask};
 ghost use Rattle.nths.specs.Masks.{nthMask};
-ghost use Rattle.years.specs.Info.{maskWhere, infoOf};
+ghost use Rattle.years.specs.Info.{tableWhere, maskWhere, isBare, infoBy, infoOf};
 
-// A year and its masks, which are blank where the rule has no use for them.
+// A year with its tables (the month of each place, its day of the month, and that from the month's end) and its masks. Each is blank
+// where the rule has no use for it.
 pub struct IterInfo {
     pub year: Year,
+    pub months: [u8; 373],
+    pub monthdays: [u8; 373],
+    pub fromends: [u8; 373],
     pub weeks: [bool; 373],
     pub nths: [bool; 373],
+}
+
+fn months_where(asked: bool, long: bool) -> [u8; 373]
+    ensures { λ r. ⌜ r ≡ tableWhere asked (monthTable long) ⌝ }
+{
+    if !asked {
+        return [0; 373];
+    }
+    month_table(long)
+}
+
+fn month_days_where(asked: bool, long: bool) -> [u8; 373]
+    ensures { λ r. ⌜ r ≡ tableWhere asked (monthDayTable long) ⌝ }
+{
+    if !asked {
+        return [0; 373];
+    }
+    month_day_table(long)
+}
+
+fn from_ends_where(asked: bool, long: bool) -> [u8; 373]
+    ensures { λ r. ⌜ r ≡ tableWhere asked (fromEndTable long) ⌝ }
+{
+    if !asked {
+        return [0; 373];
+    }
+    month_day_from_end_table(long)
 }
 
 fn weeks_where(asked: bool, number: u32, wkst: u8, byweekno: &[bool; 106]) -> [bool; 373]
@@ -34,6 +71,27 @@ fn nths_where(asked: bool, inyear: bool, year: Year, byday: &[bool; 749]) -> [bo
     neg_weekday_mask(inyear, year, byday)
 }
 
+// Whether no table and no mask is asked for.
+fn is_bare(asked: Asked) -> bool
+    ensures { λ r. ⌜ r ≡ isBare asked ⌝ }
+{
+    !(asked.month | (asked.monthday | (asked.weekno | asked.nth)))
+}
+
+// A year with nothing made: told apart, it costs one clearing of memory.
+fn bare_year(year: Year) -> IterInfo
+    ensures { λ r. ⌜ r ≡ infoBy year (replicate 373 0) (replicate 373 0) (replicate 373 0) (replicate 373 false) (replicate 373 false) ⌝ }
+{
+    IterInfo {
+        year,
+        months: [0; 373],
+        monthdays: [0; 373],
+        fromends: [0; 373],
+        weeks: [false; 373],
+        nths: [false; 373],
+    }
+}
+
 // The year with a number: it is asked for again only when the year changes.
 pub fn rebuild<'a>(
     asked: Asked,
@@ -46,7 +104,20 @@ pub fn rebuild<'a>(
     ensures { λ r. ⌜ r ≡ infoOf asked inyear wkst (now (byweekno .entry)) (now (byday .entry)) number ⌝ }
 {
     let year = year_info(number);
+    if is_bare(asked) {
+        return bare_year(year);
+    }
+    let months = months_where(asked.month, year.long);
+    let monthdays = month_days_where(asked.monthday, year.long);
+    let fromends = from_ends_where(asked.monthday, year.long);
     let weeks = weeks_where(asked.weekno, number, wkst, byweekno);
     let nths = nths_where(asked.nth, inyear, year, byday);
-    IterInfo { year, weeks, nths }
+    IterInfo {
+        year,
+        months,
+        monthdays,
+        fromends,
+        weeks,
+        nths,
+    }
 }

@@ -7,6 +7,7 @@ use borrow.Author.Tests.{not-false, not-true, ltb-true}
 use Rattle.calendar.specs.Calendar.{daysOf}
 use Rattle.nths.proofs.Rows.{days-high}
 use Rattle.days.proofs.FilterLaws.{past-fails, some-filters}
+use Rattle.years.specs.Info.{infoBy}
 use Rattle.days.specs.Filters.{dayLists}
 use borrow.Author.Needs.{needs}
 use Rattle.days.proofs.filters.is_filtered.Statement.{statement}
@@ -16,7 +17,7 @@ is-past-requires : tie.Need-is-past-requires
 is-past-requires c κs = search needs
 
 returns : tie.Need-returns
-returns c = let a = c .before .before .args in past-fails (a .asked) (a .year) (dayLists (a .bymonth .now) (a .bymonthday .now) (a .byyearday .now) (a .byday .now)) (a .weeks .now) (a .nths .now) (a .place) (not-true _ (sym (c .before .is-past .ensures) ∙ c .if1 .taken))
+returns c = let a = c .before .before .args in past-fails (a .asked) (infoBy (a .year) (a .months .now) (a .monthdays .now) (a .fromends .now) (a .weeks .now) (a .nths .now)) (dayLists (a .bymonth .now) (a .bymonthday .now) (a .byyearday .now) (a .byday .now)) (a .place) (not-true _ (sym (c .before .is-past .ensures) ∙ c .if1 .taken))
 
 -- the place lies in the tables, and in the masks
 in-place : (c : tie.Else1) → c .before .before .args .place < daysOf (c .before .before .args .year .long) + 7
@@ -26,10 +27,10 @@ in-mask : (c : tie.Else1) → c .before .before .args .place < 373
 in-mask c = omega (arith, in-place c, days-high (c .before .before .args .year .long))
 
 is-filtered-by-month-requires : tie.Need-is-filtered-by-month-requires
-is-filtered-by-month-requires c κs = in-place c
+is-filtered-by-month-requires c κs = in-mask c
 
 is-filtered-by-month-day-requires : tie.Need-is-filtered-by-month-day-requires
-is-filtered-by-month-day-requires c κs = in-place (c .before)
+is-filtered-by-month-day-requires c κs = in-mask (c .before)
 
 is-filtered-by-year-day-requires : tie.Need-is-filtered-by-year-day-requires
 is-filtered-by-year-day-requires c κs = in-place (c .before .before)
@@ -45,7 +46,7 @@ returns-2 c =
     let a = c .before .before .before .before .before .before .before .args in
     let e = c .before .before .before .before .before in
     rw (c .is-filtered-by-weekday .ensures, c .before .is-filtered-by-week-number .ensures, c .before .before .is-filtered-by-year-day .ensures, c .before .before .before .is-filtered-by-month-day .ensures, c .before .before .before .before .is-filtered-by-month .ensures)
-    (some-filters (a .asked) (a .year) (dayLists (a .bymonth .now) (a .bymonthday .now) (a .byyearday .now) (a .byday .now)) (a .weeks .now) (a .nths .now) (a .place) (not-false _ (sym (e .before .is-past .ensures) ∙ e .if1 .left)))
+    (some-filters (a .asked) (infoBy (a .year) (a .months .now) (a .monthdays .now) (a .fromends .now) (a .weeks .now) (a .nths .now)) (dayLists (a .bymonth .now) (a .bymonthday .now) (a .byyearday .now) (a .byday .now)) (a .place) (not-false _ (sym (e .before .is-past .ensures) ∙ e .if1 .left)))
 
 pub is-filtered-spec : {M : Type 1} → statement M
 is-filtered-spec =

@@ -14,12 +14,12 @@ stretch-end-requires : tie.Need-stretch-end-requires
 stretch-end-requires c κs = search needs
 
 month-days-requires : tie.Need-month-days-requires
-month-days-requires c κs = (omega (arith, c .before .stretch-end .ensures, days-high (c .before .before .args .long)), omega (arith, c .before .stretch-end .ensures))
+month-days-requires c κs = omega (arith, c .before .stretch-end .ensures, days-high (c .before .before .args .long))
 
 returns : tie.Need-returns
 returns c =
     let a = c .before .before .before .args in
-    as-set _ _ _ _ _ (ap (λ (n : ℕ). monthDays (a .long) (a .bymonth .now) (a .from) n) (sym (c .before .before .stretch-end .ensures))) (c .month-days .ensures .0) (c .month-days .ensures .1)
+    as-set _ _ _ _ _ (ap (λ (n : ℕ). monthDays (a .months .now) (a .bymonth .now) (a .from) n) (sym (c .before .before .stretch-end .ensures))) (c .month-days .ensures .0) (c .month-days .ensures .1)
 
 pub days-by-month-spec : {M : Type 1} → statement M
 days-by-month-spec = tie.close (tie.spec stretch-end-requires month-days-requires returns)

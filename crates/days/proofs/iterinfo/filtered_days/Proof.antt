@@ -4,6 +4,7 @@ use Prim.Native.Nat.{ℕ, _+_, _-_, _≤_}
 use mathlib.Core.Path.{_≡_, refl, sym, _∙_}
 use native.Mathlib.Omega.{arith}
 use borrow.Author.Tests.{not-false, not-true}
+use Rattle.years.specs.Info.{infoBy}
 use Rattle.days.specs.Filters.{dayLists, placePasses}
 use Rattle.days.specs.DaySets.{daySet}
 use Rattle.days.proofs.MaskLaws.{Filling, fill-begins, fill-no, fill-yes, fill-ends}
@@ -12,12 +13,12 @@ use Rattle.days.proofs.iterinfo.filtered_days.Statement.{statement}
 use Rattle.days.proofs.iterinfo.filtered_days.Tie as tie
 
 abbrev Inv-loop : tie.InvT-loop
-Inv-loop asked year from to bymonth bymonthday byyearday byday weeks nths days₀ end count₀ place₀ days count place =
-    Filling (placePasses asked year (dayLists bymonth bymonthday byyearday byday) weeks nths) end
-    (daySet asked year (dayLists bymonth bymonthday byyearday byday) weeks nths from to) days₀ days count place
+Inv-loop asked year from to bymonth bymonthday byyearday byday months monthdays fromends weeks nths days₀ end count₀ place₀ days count place =
+    Filling (placePasses asked (infoBy year months monthdays fromends weeks nths) (dayLists bymonth bymonthday byyearday byday)) end
+    (daySet asked (infoBy year months monthdays fromends weeks nths) (dayLists bymonth bymonthday byyearday byday) from to) days₀ days count place
 
 abbrev μ-loop : tie.MeasureT-loop
-μ-loop asked year from to bymonth bymonthday byyearday byday weeks nths days₀ end count₀ place₀ days count place = end - place
+μ-loop asked year from to bymonth bymonthday byyearday byday months monthdays fromends weeks nths days₀ end count₀ place₀ days count place = end - place
 
 table-end-requires : tie.Need-table-end-requires Inv-loop μ-loop
 table-end-requires c κs = search needs
@@ -25,7 +26,7 @@ table-end-requires c κs = search needs
 loop-holds : tie.Need-loop-holds Inv-loop μ-loop
 unfolding daySet
 loop-holds c = let a = c .before .args in
-    fill-begins (placePasses (a .asked) (a .year) (dayLists (a .bymonth .now) (a .bymonthday .now) (a .byyearday .now) (a .byday .now)) (a .weeks .now) (a .nths .now)) (c .table-end .result) (daySet (a .asked) (a .year) (dayLists (a .bymonth .now) (a .bymonthday .now) (a .byyearday .now) (a .byday .now)) (a .weeks .now) (a .nths .now) (a .from) (a .to)) (a .days .now) (a .days .now) 0 0 (a .from) (rw (c .table-end .ensures))
+    fill-begins (placePasses (a .asked) (infoBy (a .year) (a .months .now) (a .monthdays .now) (a .fromends .now) (a .weeks .now) (a .nths .now)) (dayLists (a .bymonth .now) (a .bymonthday .now) (a .byyearday .now) (a .byday .now))) (c .table-end .result) (daySet (a .asked) (infoBy (a .year) (a .months .now) (a .monthdays .now) (a .fromends .now) (a .weeks .now) (a .nths .now)) (dayLists (a .bymonth .now) (a .bymonthday .now) (a .byyearday .now) (a .byday .now)) (a .from) (a .to)) (a .days .now) (a .days .now) 0 0 (a .from) (rw (c .table-end .ensures))
 
 is-filtered-requires : tie.Need-is-filtered-requires Inv-loop μ-loop
 is-filtered-requires c κs = search needs
@@ -40,7 +41,7 @@ loop-again : tie.Need-loop-again Inv-loop μ-loop
 loop-again c =
     let a = c .before .before .before .before .before .args in
     let l = c .before .before .before .loop in
-    fill-no (placePasses (a .asked) (a .year) (dayLists (a .bymonth .now) (a .bymonthday .now) (a .byyearday .now) (a .byday .now)) (a .weeks .now) (a .nths .now)) (c .before .before .before .before .table-end .result) (daySet (a .asked) (a .year) (dayLists (a .bymonth .now) (a .bymonthday .now) (a .byyearday .now) (a .byday .now)) (a .weeks .now) (a .nths .now) (a .from) (a .to)) (a .days .now) (l .days) (l .count) (l .place)
+    fill-no (placePasses (a .asked) (infoBy (a .year) (a .months .now) (a .monthdays .now) (a .fromends .now) (a .weeks .now) (a .nths .now)) (dayLists (a .bymonth .now) (a .bymonthday .now) (a .byyearday .now) (a .byday .now))) (c .before .before .before .before .table-end .result) (daySet (a .asked) (infoBy (a .year) (a .months .now) (a .monthdays .now) (a .fromends .now) (a .weeks .now) (a .nths .now)) (dayLists (a .bymonth .now) (a .bymonthday .now) (a .byyearday .now) (a .byday .now)) (a .from) (a .to)) (a .days .now) (l .days) (l .count) (l .place)
     (c .before .before .loop-test .taken) (not-true _ (sym (c .before .is-filtered .ensures) ∙ c .if1 .taken)) (l .inv)
 
 cast-days : tie.Need-cast-days Inv-loop μ-loop
@@ -65,14 +66,14 @@ loop-again-2 : tie.Need-loop-again-2 Inv-loop μ-loop
 loop-again-2 c =
     let a = c .before .before .before .before .before .args in
     let l = c .before .before .before .loop in
-    fill-yes (placePasses (a .asked) (a .year) (dayLists (a .bymonth .now) (a .bymonthday .now) (a .byyearday .now) (a .byday .now)) (a .weeks .now) (a .nths .now)) (c .before .before .before .before .table-end .result) (daySet (a .asked) (a .year) (dayLists (a .bymonth .now) (a .bymonthday .now) (a .byyearday .now) (a .byday .now)) (a .weeks .now) (a .nths .now) (a .from) (a .to)) (a .days .now) (l .days) (l .count) (l .place)
+    fill-yes (placePasses (a .asked) (infoBy (a .year) (a .months .now) (a .monthdays .now) (a .fromends .now) (a .weeks .now) (a .nths .now)) (dayLists (a .bymonth .now) (a .bymonthday .now) (a .byyearday .now) (a .byday .now))) (c .before .before .before .before .table-end .result) (daySet (a .asked) (infoBy (a .year) (a .months .now) (a .monthdays .now) (a .fromends .now) (a .weeks .now) (a .nths .now)) (dayLists (a .bymonth .now) (a .bymonthday .now) (a .byyearday .now) (a .byday .now)) (a .from) (a .to)) (a .days .now) (l .days) (l .count) (l .place)
     (c .before .before .loop-test .taken) (not-false _ (sym (c .before .is-filtered .ensures) ∙ c .if1 .left)) (l .inv)
 
 returns : tie.Need-returns Inv-loop μ-loop
 returns c =
     let a = c .before .before .before .args in
     let l = c .before .loop in
-    fill-ends (placePasses (a .asked) (a .year) (dayLists (a .bymonth .now) (a .bymonthday .now) (a .byyearday .now) (a .byday .now)) (a .weeks .now) (a .nths .now)) (c .before .before .table-end .result) (daySet (a .asked) (a .year) (dayLists (a .bymonth .now) (a .bymonthday .now) (a .byyearday .now) (a .byday .now)) (a .weeks .now) (a .nths .now) (a .from) (a .to)) (a .days .now) (l .days) (l .count) (l .place) (c .loop-test .left) (l .inv)
+    fill-ends (placePasses (a .asked) (infoBy (a .year) (a .months .now) (a .monthdays .now) (a .fromends .now) (a .weeks .now) (a .nths .now)) (dayLists (a .bymonth .now) (a .bymonthday .now) (a .byyearday .now) (a .byday .now))) (c .before .before .table-end .result) (daySet (a .asked) (infoBy (a .year) (a .months .now) (a .monthdays .now) (a .fromends .now) (a .weeks .now) (a .nths .now)) (dayLists (a .bymonth .now) (a .bymonthday .now) (a .byyearday .now) (a .byday .now)) (a .from) (a .to)) (a .days .now) (l .days) (l .count) (l .place) (c .loop-test .left) (l .inv)
 
 pub filtered-days-spec : {M : Type 1} → statement M
 filtered-days-spec =

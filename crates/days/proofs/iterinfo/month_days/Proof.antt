@@ -13,14 +13,14 @@ use Rattle.days.proofs.iterinfo.month_days.Statement.{statement}
 use Rattle.days.proofs.iterinfo.month_days.Tie as tie
 
 abbrev Inv-loop : tie.InvT-loop
-Inv-loop long from end bymonth days₀ taken₀ place₀ days taken place = Filling (monthAt long bymonth) end (monthDays long bymonth from end) days₀ days taken place
+Inv-loop from end bymonth months days₀ taken₀ place₀ days taken place = Filling (monthAt months bymonth) end (monthDays months bymonth from end) days₀ days taken place
 
 abbrev μ-loop : tie.MeasureT-loop
-μ-loop long from end bymonth days₀ taken₀ place₀ days taken place = end - place
+μ-loop from end bymonth months days₀ taken₀ place₀ days taken place = end - place
 
 loop-holds : tie.Need-loop-holds Inv-loop μ-loop
 unfolding monthDays
-loop-holds c = let a = c .args in fill-begins (monthAt (a .long) (a .bymonth .now)) (a .end) (monthDays (a .long) (a .bymonth .now) (a .from) (a .end)) (a .days .now) (a .days .now) 0 0 (a .from) refl
+loop-holds c = let a = c .args in fill-begins (monthAt (a .months .now) (a .bymonth .now)) (a .end) (monthDays (a .months .now) (a .bymonth .now) (a .from) (a .end)) (a .days .now) (a .days .now) 0 0 (a .from) refl
 
 is-filtered-by-month-requires : tie.Need-is-filtered-by-month-requires Inv-loop μ-loop
 is-filtered-by-month-requires c κs = search needs
@@ -35,7 +35,7 @@ loop-again : tie.Need-loop-again Inv-loop μ-loop
 loop-again c =
     let a = c .before .before .before .before .args in
     let l = c .before .before .before .loop in
-    fill-no (monthAt (a .long) (a .bymonth .now)) (a .end) (monthDays (a .long) (a .bymonth .now) (a .from) (a .end)) (a .days .now) (l .days) (l .taken) (l .place) (c .before .before .loop-test .taken) (not-true _ (sym (c .before .is-filtered-by-month .ensures) ∙ c .if1 .taken)) (l .inv)
+    fill-no (monthAt (a .months .now) (a .bymonth .now)) (a .end) (monthDays (a .months .now) (a .bymonth .now) (a .from) (a .end)) (a .days .now) (l .days) (l .taken) (l .place) (c .before .before .loop-test .taken) (not-true _ (sym (c .before .is-filtered-by-month .ensures) ∙ c .if1 .taken)) (l .inv)
 
 cast-days : tie.Need-cast-days Inv-loop μ-loop
 cast-days c = search needs
@@ -59,13 +59,13 @@ loop-again-2 : tie.Need-loop-again-2 Inv-loop μ-loop
 loop-again-2 c =
     let a = c .before .before .before .before .args in
     let l = c .before .before .before .loop in
-    fill-yes (monthAt (a .long) (a .bymonth .now)) (a .end) (monthDays (a .long) (a .bymonth .now) (a .from) (a .end)) (a .days .now) (l .days) (l .taken) (l .place) (c .before .before .loop-test .taken) (not-false _ (sym (c .before .is-filtered-by-month .ensures) ∙ c .if1 .left)) (l .inv)
+    fill-yes (monthAt (a .months .now) (a .bymonth .now)) (a .end) (monthDays (a .months .now) (a .bymonth .now) (a .from) (a .end)) (a .days .now) (l .days) (l .taken) (l .place) (c .before .before .loop-test .taken) (not-false _ (sym (c .before .is-filtered-by-month .ensures) ∙ c .if1 .left)) (l .inv)
 
 returns : tie.Need-returns Inv-loop μ-loop
 returns c =
     let a = c .before .before .args in
     let l = c .before .loop in
-    fill-ends (monthAt (a .long) (a .bymonth .now)) (a .end) (monthDays (a .long) (a .bymonth .now) (a .from) (a .end)) (a .days .now) (l .days) (l .taken) (l .place) (c .loop-test .left) (l .inv)
+    fill-ends (monthAt (a .months .now) (a .bymonth .now)) (a .end) (monthDays (a .months .now) (a .bymonth .now) (a .from) (a .end)) (a .days .now) (l .days) (l .taken) (l .place) (c .loop-test .left) (l .inv)
 
 pub month-days-spec : {M : Type 1} → statement M
 month-days-spec =

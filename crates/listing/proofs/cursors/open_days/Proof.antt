@@ -31,16 +31,16 @@ first-is a inyear wkst d number weeknos days info h n e =
 -- what is written of its days
 opened : (a : Asked) (inyear : Bool) (wkst number count : ℕ) (span : Days) (l : DayLists) (weeknos : List Bool) (info : IterInfo) (slots out : List ℕ)
     → span .from < 3652059 → number ≡ yearOf (span .from) → info ≡ infoOf a inyear wkst weeknos (l .byday) number
-    → count ≡ length (daySet a (info .year) l (info .weeks) (info .nths) (span .from - info .year .first) (span .to - info .year .first))
-    → out ≡ sets slots 0 (daySet a (info .year) l (info .weeks) (info .nths) (span .from - info .year .first) (span .to - info .year .first))
+    → count ≡ length (daySet a info l (span .from - info .year .first) (span .to - info .year .first))
+    → out ≡ sets slots 0 (daySet a info l (span .from - info .year .first) (span .to - info .year .first))
     → (_≡_ {A = YearDays} record { first = info .year .first; count = count } (yearDaysOf a inyear wkst span l weeknos))
     × (out ≡ sets slots 0 (placesFrom a inyear wkst span l weeknos))
 unfolding yearDaysOf placesFrom placesOf
 opened a inyear wkst number count span l weeknos info slots out h n e c o =
     let f : info .year .first ≡ newYear (yearOf (span .from)) = first-is a inyear wkst (span .from) number weeknos (l .byday) info h n e in
-    let g : daySet a (info .year) l (info .weeks) (info .nths) (span .from - info .year .first) (span .to - info .year .first)
+    let g : daySet a info l (span .from - info .year .first) (span .to - info .year .first)
     ≡ placesFrom a inyear wkst span l weeknos =
-    ap (λ (x : ℕ). daySet a (info .year) l (info .weeks) (info .nths) (span .from - x) (span .to - x)) f
+    ap (λ (x : ℕ). daySet a info l (span .from - x) (span .to - x)) f
     ∙ ap (λ (i : IterInfo). placesOf a i l span (yearOf (span .from))) (e ∙ ap (infoOf a inyear wkst weeknos (l .byday)) n) in (
       ap (λ (x : ℕ). record { first = x; count = count }) f
           ∙ ap (λ (x : ℕ). record { first = newYear (yearOf (span .from)); count = x }) (c ∙ ap (λ (x : List ℕ). length x) g),
@@ -76,7 +76,7 @@ get-dayset-requires c κs = search needs
 
 returns : tie.Need-returns
 returns c =
-    let known = c .before .before .before .before .before .before in
+    let known = c .before .before .before .before .before .before .before .before .before in
     let made = known .before .before in
     let a = made .before .before .before .args in
     opened (a .asked) (a .inyear) (a .wkst) (made .before .year-of-day .result) (c .get-dayset .result) (a .span) _

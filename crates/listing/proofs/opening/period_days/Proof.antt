@@ -1,6 +1,7 @@
 -- `listing::opening::period_days` meets its contract.
 -- Assumes nothing.
 use mathlib.Core.Path.{sym, _∙_}
+use Rattle.years.specs.Info.{infoBy}
 use Rattle.days.specs.Filters.{dayLists}
 use Rattle.days.proofs.Stretches.{by-none, by-month-alone, as-set}
 use borrow.Author.Needs.{needs}
@@ -17,7 +18,7 @@ returns : tie.Need-returns
 returns c =
     let a = c .before .before .before .before .args in
     as-set _ _ _ _ _
-    (by-none (a .asked) (a .year) (dayLists (a .bymonth .now) (a .bymonthday .now) (a .byyearday .now) (a .byday .now)) (a .weeks .now) (a .nths .now) (a .from) (a .to) (sym (c .before .before .before .is-plain .ensures) ∙ c .before .before .if1 .taken))
+    (by-none (a .asked) (infoBy (a .year) (a .months .now) (a .monthdays .now) (a .fromends .now) (a .weeks .now) (a .nths .now)) (dayLists (a .bymonth .now) (a .bymonthday .now) (a .byyearday .now) (a .byday .now)) (a .from) (a .to) (sym (c .before .before .before .is-plain .ensures) ∙ c .before .before .if1 .taken))
     (c .plain-days .ensures .0) (c .plain-days .ensures .1)
 
 is-month-alone-requires : tie.Need-is-month-alone-requires
@@ -30,7 +31,7 @@ returns-2 : tie.Need-returns-2
 returns-2 c =
     let a = c .before .before .before .before .before .before .args in
     as-set _ _ _ _ _
-    (by-month-alone (a .asked) (a .year) (dayLists (a .bymonth .now) (a .bymonthday .now) (a .byyearday .now) (a .byday .now)) (a .weeks .now) (a .nths .now) (a .from) (a .to) (sym (c .before .before .before .is-month-alone .ensures) ∙ c .before .before .if2 .taken))
+    (by-month-alone (a .asked) (infoBy (a .year) (a .months .now) (a .monthdays .now) (a .fromends .now) (a .weeks .now) (a .nths .now)) (dayLists (a .bymonth .now) (a .bymonthday .now) (a .byyearday .now) (a .byday .now)) (a .from) (a .to) (sym (c .before .before .before .is-month-alone .ensures) ∙ c .before .before .if2 .taken))
     (c .days-by-month .ensures .0) (c .days-by-month .ensures .1)
 
 get-dayset-requires : tie.Need-get-dayset-requires

@@ -5,7 +5,7 @@ use mathlib.Core.Path.{_≡_}
 use mathlib.Core.Bool.{false}
 use native.Mathlib.Omega.{arith}
 use borrow.Author.Needs.{needs}
-use Rattle.nths.specs.Stands.{NoEntry}
+use Rattle.nths.specs.Marks.{NoEntry}
 use Rattle.nths.proofs.MarkLaws.{no-rows, one-row-more, all-rows}
 use Rattle.nths.proofs.monthinfo.has_entry.Statement.{statement}
 use Rattle.nths.proofs.monthinfo.has_entry.Tie as tie

@@ -8,7 +8,7 @@ use borrow.Author.Needs.{needs}
 use borrow.Author.Tests.{lt-ltb}
 use Rattle.calendar.specs.Calendar.{daysOf}
 use Rattle.nths.specs.Masks.{nthAt}
-use Rattle.nths.specs.Stands.{Marked}
+use Rattle.nths.specs.Marks.{Marked}
 use Rattle.nths.proofs.Rows.{days-high, year-day}
 use Rattle.nths.proofs.NthLaws.{nth-in-year}
 use Rattle.nths.proofs.MarkLaws.{none-marked, one-marked, all-marked}
