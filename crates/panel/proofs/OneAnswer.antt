@@ -5,7 +5,7 @@ use Prim.Native.Nat.{ℕ}
 use mathlib.Core.Path.{ap}
 use mathlib.Core.List.{List}
 use Rattle.calendar.proofs.Determines.{DeterminesBuffer, one-answer}
-use Rattle.panel.specs.Edge.{Said, Shown, shown}
+use Rattle.edge.specs.Edge.{Said, Shown, shown}
 use Rattle.panel.proofs.yomaveludge_check.Kinds as check-kinds
 use Rattle.panel.proofs.yomaveludge_check.Reads as check
 use Rattle.panel.proofs.yomaveludge_fresh.Kinds as fresh-kinds

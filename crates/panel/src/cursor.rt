@@ -9,7 +9,7 @@ use machine::Cursor;
 use machine::State;
 ghost use mathlib.Core.Path.{_≡_};
 ghost use lib.ListN.{length};
-ghost use Rattle.panel.specs.Layout.{causeNumber, stateNumber, stateOf, encodeCursor, cursorIn, isCursorBytes};
+ghost use Rattle.edge.specs.Layout.{causeNumber, stateNumber, stateOf, encodeCursor, cursorIn, isCursorBytes};
 
 pub(crate) const CURSOR_LENGTH: usize = 21;
 

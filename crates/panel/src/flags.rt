@@ -5,7 +5,7 @@ ghost use mathlib.Core.Bool.{_&&_};
 ghost use lib.Dec.{leb};
 ghost use lib.ListN.{length, drop};
 ghost use lib.Seq.{sets};
-ghost use Rattle.panel.specs.Bytes.{areFlags, flagsAt, flagByte, flagBytes};
+ghost use Rattle.edge.specs.Bytes.{areFlags, flagsAt, flagByte, flagBytes};
 
 // The higher of two bytes: it is a flag where both are.
 fn higher(a: u8, b: u8) -> u8

@@ -28,8 +28,8 @@ use validator::validate_rrule::check;
 ghost use mathlib.Core.Path.{_≡_};
 ghost use Rattle.rule.specs.Raw.{raw, rawLists};
 ghost use Rattle.rule.specs.Records.{yielded};
-ghost use Rattle.panel.specs.Layout.{countFrom, untilFrom};
-ghost use Rattle.panel.specs.Edge.{said, checkSays, freshSays, shown, runSays, stopNumber, isRefused, unreadable};
+ghost use Rattle.edge.specs.Layout.{countFrom, untilFrom};
+ghost use Rattle.edge.specs.Edge.{said, checkSays, freshSays, shown, runSays, stopNumber, isRefused, unreadable};
 
 const BAD_RECORD: u8 = 20;
 

@@ -3,7 +3,7 @@ ghost use mathlib.Core.Path.{_≡_};
 ghost use Prim.Native.Nat.{_+_, _<_, _≤_};
 ghost use lib.ListN.{length, set};
 ghost use lib.Seq.{sets};
-ghost use Rattle.panel.specs.Bytes.{twoAt, fourAt, eightAt, two, four, eight};
+ghost use Rattle.edge.specs.Bytes.{twoAt, fourAt, eightAt, two, four, eight};
 
 fn wide(byte: u8) -> u32
     ensures { λ r. ⌜ (r ≡ byte) × (r < 256) ⌝ }

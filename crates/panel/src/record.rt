@@ -25,7 +25,7 @@ ghost use Prim.Native.Nat.{_≤_};
 ghost use lib.ListN.{length};
 ghost use lib.Seq.{sets};
 ghost use Rattle.rule.specs.Filling.{frequency};
-ghost use Rattle.panel.specs.Layout.{countTag, countNumber, untilTag, untilNumber, countFrom, untilFrom, isTagged, headBytes, dayBytes, timeBytes, encodeRecord, recordIn, isRecordBytes};
+ghost use Rattle.edge.specs.Layout.{countTag, countNumber, untilTag, untilNumber, countFrom, untilFrom, isTagged, headBytes, dayBytes, timeBytes, encodeRecord, recordIn, isRecordBytes};
 
 pub(crate) const RECORD_LENGTH: usize = 2563;
 

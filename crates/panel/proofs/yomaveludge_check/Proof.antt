@@ -1,7 +1,7 @@
 -- `panel::yomaveludge_check` meets its contract: each way out is a case of what is said.
 -- Assumes nothing.
 use Rattle.rule.specs.Raw.{rawLists}
-use Rattle.panel.proofs.EdgeLaws.{check-length, check-refused, check-accepted}
+use Rattle.edge.proofs.EdgeLaws.{check-length, check-refused, check-accepted}
 use borrow.Author.Needs.{needs}
 use Rattle.panel.proofs.yomaveludge_check.Statement.{statement}
 use Rattle.panel.proofs.yomaveludge_check.Tie as tie

@@ -2,7 +2,7 @@
 -- Assumes nothing.
 use mathlib.Core.Path.{sym, _∙_}
 use borrow.Author.Tests.{not-true, not-false}
-use Rattle.panel.proofs.EdgeLaws.{record-size, record-held, fresh-no-record, fresh-bad-record, fresh-length, fresh-made}
+use Rattle.edge.proofs.EdgeLaws.{record-size, record-held, fresh-no-record, fresh-bad-record, fresh-length, fresh-made}
 use borrow.Author.Needs.{needs}
 use Rattle.panel.proofs.yomaveludge_fresh.Statement.{statement}
 use Rattle.panel.proofs.yomaveludge_fresh.Tie as tie

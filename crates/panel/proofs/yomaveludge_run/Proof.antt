@@ -2,7 +2,7 @@
 -- Assumes nothing.
 use mathlib.Core.Path.{sym, _∙_}
 use borrow.Author.Tests.{not-true, not-false}
-use Rattle.panel.proofs.EdgeLaws.{record-size, record-held, cursor-size, cursor-held, run-no-record, run-no-cursor, run-refused, run-answers}
+use Rattle.edge.proofs.EdgeLaws.{record-size, record-held, cursor-size, cursor-held, run-no-record, run-no-cursor, run-refused, run-answers}
 use borrow.Author.Needs.{needs}
 use Rattle.panel.proofs.yomaveludge_run.Statement.{statement}
 use Rattle.panel.proofs.yomaveludge_run.Tie as tie

@@ -1,6 +1,6 @@
 -- `panel::cursor::cursor_in` meets its contract.
 -- Assumes nothing.
-use Rattle.panel.proofs.LayoutLaws.{cursor-read}
+use Rattle.edge.proofs.LayoutLaws.{cursor-read}
 use borrow.Author.Needs.{needs}
 use Rattle.panel.proofs.cursor.cursor_in.Statement.{statement}
 use Rattle.panel.proofs.cursor.cursor_in.Tie as tie

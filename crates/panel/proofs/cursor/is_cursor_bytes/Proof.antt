@@ -1,6 +1,6 @@
 -- `panel::cursor::is_cursor_bytes` meets its contract.
 -- Assumes nothing.
-use Rattle.panel.proofs.LayoutLaws.{cursor-length, cursor-judged}
+use Rattle.edge.proofs.LayoutLaws.{cursor-length, cursor-judged}
 use borrow.Author.Needs.{needs}
 use Rattle.panel.proofs.cursor.is_cursor_bytes.Statement.{statement}
 use Rattle.panel.proofs.cursor.is_cursor_bytes.Tie as tie

@@ -1,6 +1,6 @@
 -- `panel::cursor::put_cursor` meets its contract.
 -- Assumes nothing.
-use Rattle.panel.proofs.LayoutLaws.{cursor-put}
+use Rattle.edge.proofs.LayoutLaws.{cursor-put}
 use borrow.Author.Needs.{needs}
 use Rattle.panel.proofs.cursor.put_cursor.Statement.{statement}
 use Rattle.panel.proofs.cursor.put_cursor.Tie as tie

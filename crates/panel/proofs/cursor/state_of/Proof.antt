@@ -1,7 +1,7 @@
 -- `panel::cursor::state_of` meets its contract.
 -- Assumes nothing.
 use borrow.Author.Tests.{eq-eqb, ne-eqb}
-use Rattle.panel.specs.Layout.{stateOf}
+use Rattle.edge.specs.Layout.{stateOf}
 use Rattle.panel.proofs.cursor.state_of.Statement.{statement}
 use Rattle.panel.proofs.cursor.state_of.Tie as tie
 

@@ -5,8 +5,8 @@ use mathlib.Core.Path.{_≡_, refl, sym, _∙_}
 use mathlib.Core.Bool.{_&&_}
 use lib.Dec.{leb}
 use lib.ListN.{length, drop}
-use Rattle.panel.specs.Bytes.{areFlags}
-use Rattle.panel.proofs.ByteLaws.{flags-next, flags-done}
+use Rattle.edge.specs.Bytes.{areFlags}
+use Rattle.edge.proofs.ByteLaws.{flags-next, flags-done}
 use borrow.Author.Needs.{needs}
 use Rattle.panel.proofs.flags.are_flags.Statement.{statement}
 use Rattle.panel.proofs.flags.are_flags.Tie as tie

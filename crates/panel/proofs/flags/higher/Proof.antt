@@ -1,6 +1,6 @@
 -- `panel::flags::higher` meets its contract.
 -- Assumes nothing.
-use Rattle.panel.proofs.ByteLaws.{higher-second, higher-first}
+use Rattle.edge.proofs.ByteLaws.{higher-second, higher-first}
 use Rattle.panel.proofs.flags.higher.Statement.{statement}
 use Rattle.panel.proofs.flags.higher.Tie as tie
 

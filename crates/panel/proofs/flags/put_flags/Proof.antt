@@ -5,8 +5,8 @@ use mathlib.Core.Path.{_≡_, refl, sym, ap, _∙_}
 use native.Mathlib.Omega.{arith}
 use lib.ListN.{length, set, drop, length-set}
 use lib.Seq.{sets}
-use Rattle.panel.specs.Bytes.{flagBytes}
-use Rattle.panel.proofs.ByteLaws.{put-next, put-done}
+use Rattle.edge.specs.Bytes.{flagBytes}
+use Rattle.edge.proofs.ByteLaws.{put-next, put-done}
 use borrow.Author.Needs.{needs}
 use Rattle.panel.proofs.flags.put_flags.Statement.{statement}
 use Rattle.panel.proofs.flags.put_flags.Tie as tie

@@ -7,8 +7,8 @@ use native.Mathlib.Omega.{arith}
 use lib.Dec.{eqb}
 use lib.ListN.{length, getD, take, length-set}
 use Rattle.rule.specs.Lists.{flags}
-use Rattle.panel.specs.Bytes.{flagsAt}
-use Rattle.panel.proofs.ByteLaws.{take-next, take-done}
+use Rattle.edge.specs.Bytes.{flagsAt}
+use Rattle.edge.proofs.ByteLaws.{take-next, take-done}
 use borrow.Author.Needs.{needs}
 use Rattle.panel.proofs.flags.take_flags.Statement.{statement}
 use Rattle.panel.proofs.flags.take_flags.Tie as tie

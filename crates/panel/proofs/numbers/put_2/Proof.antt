@@ -3,7 +3,7 @@
 use native.Mathlib.Omega.{arith}
 use native.Mathlib.Numerals.{add-one}
 use lib.ListN.{length-set}
-use Rattle.panel.specs.Bytes.{two}
+use Rattle.edge.specs.Bytes.{two}
 use borrow.Author.Needs.{needs}
 use Rattle.panel.proofs.numbers.put_2.Statement.{statement}
 use Rattle.panel.proofs.numbers.put_2.Tie as tie

@@ -1,6 +1,6 @@
 -- `panel::numbers::put_4` meets its contract.
 -- Assumes nothing.
-use Rattle.panel.proofs.ByteLaws.{four-halves}
+use Rattle.edge.proofs.ByteLaws.{four-halves}
 use borrow.Author.Needs.{needs}
 use Rattle.panel.proofs.numbers.put_4.Statement.{statement}
 use Rattle.panel.proofs.numbers.put_4.Tie as tie

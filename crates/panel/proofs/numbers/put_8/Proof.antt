@@ -1,6 +1,6 @@
 -- `panel::numbers::put_8` meets its contract.
 -- Assumes nothing.
-use Rattle.panel.proofs.ByteLaws.{eight-halves}
+use Rattle.edge.proofs.ByteLaws.{eight-halves}
 use borrow.Author.Needs.{needs}
 use Rattle.panel.proofs.numbers.put_8.Statement.{statement}
 use Rattle.panel.proofs.numbers.put_8.Tie as tie

@@ -1,7 +1,7 @@
 -- `panel::numbers::read_2` meets its contract.
 -- Assumes nothing.
 use native.Mathlib.Omega.{arith}
-use Rattle.panel.specs.Bytes.{twoAt}
+use Rattle.edge.specs.Bytes.{twoAt}
 use borrow.Author.Needs.{needs}
 use Rattle.panel.proofs.numbers.read_2.Statement.{statement}
 use Rattle.panel.proofs.numbers.read_2.Tie as tie

@@ -1,7 +1,7 @@
 -- `panel::numbers::read_4` meets its contract.
 -- Assumes nothing.
 use native.Mathlib.Omega.{arith}
-use Rattle.panel.specs.Bytes.{fourAt}
+use Rattle.edge.specs.Bytes.{fourAt}
 use borrow.Author.Needs.{needs}
 use Rattle.panel.proofs.numbers.read_4.Statement.{statement}
 use Rattle.panel.proofs.numbers.read_4.Tie as tie

@@ -1,7 +1,7 @@
 -- `panel::numbers::read_8` meets its contract.
 -- Assumes nothing.
 use native.Mathlib.Omega.{arith}
-use Rattle.panel.specs.Bytes.{eightAt}
+use Rattle.edge.specs.Bytes.{eightAt}
 use borrow.Author.Needs.{needs}
 use Rattle.panel.proofs.numbers.read_8.Statement.{statement}
 use Rattle.panel.proofs.numbers.read_8.Tie as tie

@@ -1,6 +1,6 @@
 -- `panel::record::is_record_bytes` meets its contract.
 -- Assumes nothing.
-use Rattle.panel.proofs.LayoutLaws.{record-length, record-judged}
+use Rattle.edge.proofs.LayoutLaws.{record-length, record-judged}
 use borrow.Author.Needs.{needs}
 use Rattle.panel.proofs.record.is_record_bytes.Statement.{statement}
 use Rattle.panel.proofs.record.is_record_bytes.Tie as tie

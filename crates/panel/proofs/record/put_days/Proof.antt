@@ -1,6 +1,6 @@
 -- `panel::record::put_days` meets its contract.
 -- Assumes nothing.
-use Rattle.panel.proofs.LayoutLaws.{days-put, length-days}
+use Rattle.edge.proofs.LayoutLaws.{days-put, length-days}
 use borrow.Author.Needs.{needs}
 use Rattle.panel.proofs.record.put_days.Statement.{statement}
 use Rattle.panel.proofs.record.put_days.Tie as tie

@@ -1,6 +1,6 @@
 -- `panel::record::put_head` meets its contract.
 -- Assumes nothing.
-use Rattle.panel.proofs.LayoutLaws.{head-put}
+use Rattle.edge.proofs.LayoutLaws.{head-put}
 use borrow.Author.Needs.{needs}
 use Rattle.panel.proofs.record.put_head.Statement.{statement}
 use Rattle.panel.proofs.record.put_head.Tie as tie

@@ -1,6 +1,6 @@
 -- `panel::record::put_record` meets its contract.
 -- Assumes nothing.
-use Rattle.panel.proofs.LayoutLaws.{record-put}
+use Rattle.edge.proofs.LayoutLaws.{record-put}
 use borrow.Author.Needs.{needs}
 use Rattle.panel.proofs.record.put_record.Statement.{statement}
 use Rattle.panel.proofs.record.put_record.Tie as tie

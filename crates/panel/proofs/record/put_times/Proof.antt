@@ -1,6 +1,6 @@
 -- `panel::record::put_times` meets its contract.
 -- Assumes nothing.
-use Rattle.panel.proofs.LayoutLaws.{times-put, length-times}
+use Rattle.edge.proofs.LayoutLaws.{times-put, length-times}
 use borrow.Author.Needs.{needs}
 use Rattle.panel.proofs.record.put_times.Statement.{statement}
 use Rattle.panel.proofs.record.put_times.Tie as tie

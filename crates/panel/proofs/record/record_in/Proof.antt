@@ -2,7 +2,7 @@
 -- Assumes nothing.
 use mathlib.Core.Path.{refl}
 use native.Mathlib.Omega.{arith}
-use Rattle.panel.proofs.LayoutLaws.{record-read}
+use Rattle.edge.proofs.LayoutLaws.{record-read}
 use borrow.Author.Needs.{needs}
 use Rattle.panel.proofs.record.record_in.Statement.{statement}
 use Rattle.panel.proofs.record.record_in.Tie as tie

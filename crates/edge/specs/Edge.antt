@@ -18,7 +18,7 @@ use Rattle.rule.specs.Refusals.{refusalNumber}
 use Rattle.rule.specs.Filling.{checked}
 use Rattle.rule.specs.Records.{yielded}
 use Rattle.rule.specs.Run.{freshOf, runOf}
-use Rattle.panel.specs.Layout.{Decoded, Decoded.nothing, Decoded.holds, recordLength, encodeRecord, decodeRecord, cursorLength, stateNumber, encodeCursor, decodeCursor}
+use Rattle.edge.specs.Layout.{Decoded, Decoded.nothing, Decoded.holds, recordLength, encodeRecord, decodeRecord, cursorLength, stateNumber, encodeCursor, decodeCursor}
 
 -- a call's number, with the bytes that it leaves
 pub record Said : Type 0 where

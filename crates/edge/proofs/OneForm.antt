@@ -11,11 +11,11 @@ use borrow.Author.Tests.{leb-true, eqb-true}
 use Rattle.calendar.specs.Calendar.{if_then_else_}
 use Rattle.calendar.proofs.Table.{same-below}
 use Rattle.rule.specs.Filling.{frequencyNumber, frequency}
-use Rattle.panel.specs.Bytes.{twoAt, fourAt, eightAt, four, eight, areFlags, flagsAt, flagBytes}
-use Rattle.panel.specs.Layout.{Decoded.nothing, Decoded.holds, countTag, countNumber, untilTag, untilNumber, countFrom, untilFrom, isTagged, headBytes, dayBytes, timeBytes, encodeRecord, recordIn, isRecordBytes, decodeRecord, stateNumber, stateOf, encodeCursor, cursorIn, isCursorBytes, decodeCursor}
-use Rattle.panel.specs.Claims.{AreBytes, RecordOneForm, CursorOneForm}
-use Rattle.panel.proofs.EdgeLaws.{record-size, cursor-size}
-use Rattle.panel.proofs.Written.{each, goes-on, two-at, four-at, eight-at, flags-again, flags-small}
+use Rattle.edge.specs.Bytes.{twoAt, fourAt, eightAt, four, eight, areFlags, flagsAt, flagBytes}
+use Rattle.edge.specs.Layout.{Decoded.nothing, Decoded.holds, countTag, countNumber, untilTag, untilNumber, countFrom, untilFrom, isTagged, headBytes, dayBytes, timeBytes, encodeRecord, recordIn, isRecordBytes, decodeRecord, stateNumber, stateOf, encodeCursor, cursorIn, isCursorBytes, decodeCursor}
+use Rattle.edge.specs.Claims.{AreBytes, RecordOneForm, CursorOneForm}
+use Rattle.edge.proofs.EdgeLaws.{record-size, cursor-size}
+use Rattle.edge.proofs.Written.{each, goes-on, two-at, four-at, eight-at, flags-again, flags-small}
 
 and-both : (a b : Bool) → a && b ≡ true → (a ≡ true) × (b ≡ true)
 and-both true b e = (refl, e)

@@ -10,8 +10,8 @@ use lib.ListN.{length, getD, drop, length-map, List·getD-append}
 use lib.Seq.{drop-cons, getD-append-add, getD-drop}
 use borrow.Author.Tests.{leb-true, eqb-true, eqb-false}
 use Rattle.rule.specs.Lists.{flags}
-use Rattle.panel.specs.Bytes.{twoAt, fourAt, eightAt, two, four, eight, areFlags, flagsAt, flagByte, flagBytes}
-use Rattle.panel.specs.Claims.{AreBytes}
+use Rattle.edge.specs.Bytes.{twoAt, fourAt, eightAt, two, four, eight, areFlags, flagsAt, flagByte, flagBytes}
+use Rattle.edge.specs.Claims.{AreBytes}
 
 -- read again
 module _ (n : ℕ) where

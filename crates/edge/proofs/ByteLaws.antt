@@ -11,7 +11,7 @@ use lib.ListN.{length, getD, set, take, drop, drop-of-length-le}
 use lib.Seq.{sets, sets-eq, drop-cons, take-suc-set, take-all}
 use borrow.Author.Tests.{leb-true, le-leb}
 use Rattle.rule.specs.Lists.{flags}
-use Rattle.panel.specs.Bytes.{two, four, eight, areFlags, flagByte, flagBytes}
+use Rattle.edge.specs.Bytes.{two, four, eight, areFlags, flagByte, flagBytes}
 
 -- a list in two parts: the second is stored behind the first
 pub sets-append : {A : Type 0} (l : List A) (i : ℕ) (xs ys : List A) → sets l i (xs ++ ys) ≡ sets (sets l i xs) (i + length xs) ys

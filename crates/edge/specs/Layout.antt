@@ -14,7 +14,7 @@ use Rattle.rule.specs.declared.rrule.Count.{Count}
 use Rattle.rule.specs.declared.rrule.Until.{Until}
 use Rattle.rule.specs.declared.rrule.Rule.{Rule}
 use Rattle.rule.specs.Filling.{frequencyNumber, frequency}
-use Rattle.panel.specs.Bytes.{twoAt, fourAt, eightAt, two, four, eight, areFlags, flagsAt, flagBytes}
+use Rattle.edge.specs.Bytes.{twoAt, fourAt, eightAt, two, four, eight, areFlags, flagsAt, flagBytes}
 
 -- What bytes may be: nothing that is known, or a value.
 pub data Decoded (A : Type 0) : Type 0 where

@@ -10,8 +10,8 @@ use Rattle.rule.specs.declared.rrule.Rule.{Rule}
 use Rattle.rule.specs.Raw.{Raw}
 use Rattle.rule.specs.Records.{Sized}
 use Rattle.rule.specs.Run.{runOf}
-use Rattle.panel.specs.Layout.{Decoded.holds, encodeRecord, decodeRecord, encodeCursor, decodeCursor}
-use Rattle.panel.specs.Edge.{checkSays, freshSays, shown, shows, runSays}
+use Rattle.edge.specs.Layout.{Decoded.holds, encodeRecord, decodeRecord, encodeCursor, decodeCursor}
+use Rattle.edge.specs.Edge.{checkSays, freshSays, shown, shows, runSays}
 
 -- every byte is below 256: so it is with all that comes from C
 abbrev pub AreBytes : List ℕ → Type 0

@@ -22,10 +22,10 @@ use Rattle.rule.specs.Refusals.{refusalNumber}
 use Rattle.rule.specs.Filling.{checked}
 use Rattle.rule.specs.Records.{yielded}
 use Rattle.rule.specs.Run.{periods, freshOf, runOf}
-use Rattle.panel.specs.Layout.{Decoded, Decoded.nothing, Decoded.holds, recordLength, cursorLength, decodeRecord, encodeCursor, decodeCursor}
-use Rattle.panel.specs.Edge.{Said, said, saidOf, checkSays, freshFrom, freshSays, Shown, shown, shows, refusedShows, unreadable, runFrom, runSays}
-use Rattle.panel.specs.Claims.{CheckNumbers, CheckRefusedLeaves, FreshNumbers, FreshRefusedLeaves, RunNumbers, RunRefusedLeaves, RunOfWritten}
-use Rattle.panel.proofs.ReadBack.{record-read-back, cursor-read-back}
+use Rattle.edge.specs.Layout.{Decoded, Decoded.nothing, Decoded.holds, recordLength, cursorLength, decodeRecord, encodeCursor, decodeCursor}
+use Rattle.edge.specs.Edge.{Said, said, saidOf, checkSays, freshFrom, freshSays, Shown, shown, shows, refusedShows, unreadable, runFrom, runSays}
+use Rattle.edge.specs.Claims.{CheckNumbers, CheckRefusedLeaves, FreshNumbers, FreshRefusedLeaves, RunNumbers, RunRefusedLeaves, RunOfWritten}
+use Rattle.edge.proofs.ReadBack.{record-read-back, cursor-read-back}
 
 never : {A : Type 0} (n : ℕ) → n < n → A
 never n h = absurd (omega arith)

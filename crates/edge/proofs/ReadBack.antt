@@ -15,12 +15,12 @@ use Rattle.rule.specs.declared.rrule.Until.{Until}
 use Rattle.rule.specs.declared.rrule.Rule.{Rule}
 use Rattle.rule.specs.Filling.{frequencyNumber, frequency}
 use Rattle.rule.specs.Records.{Sized}
-use Rattle.panel.specs.Bytes.{twoAt, fourAt, eightAt, areFlags, flagsAt, flagByte, flagBytes}
-use Rattle.panel.specs.Layout.{Decoded.holds, countTag, countNumber, untilTag, untilNumber, countFrom, untilFrom, isTagged, headBytes, dayBytes, timeBytes, encodeRecord, isRecordBytes, decodeRecord, stateNumber, stateOf, encodeCursor}
-use Rattle.panel.specs.Claims.{RecordReadBack, CursorReadBack}
-use Rattle.panel.proofs.LayoutLaws.{length-head, length-days, length-times, record-read, record-judged, cursor-read, cursor-judged}
-use Rattle.panel.proofs.EdgeLaws.{record-held, cursor-held}
-use Rattle.panel.proofs.Written.{two-read, four-read, eight-read, are-written, are-both, set-read}
+use Rattle.edge.specs.Bytes.{twoAt, fourAt, eightAt, areFlags, flagsAt, flagByte, flagBytes}
+use Rattle.edge.specs.Layout.{Decoded.holds, countTag, countNumber, untilTag, untilNumber, countFrom, untilFrom, isTagged, headBytes, dayBytes, timeBytes, encodeRecord, isRecordBytes, decodeRecord, stateNumber, stateOf, encodeCursor}
+use Rattle.edge.specs.Claims.{RecordReadBack, CursorReadBack}
+use Rattle.edge.proofs.LayoutLaws.{length-head, length-days, length-times, record-read, record-judged, cursor-read, cursor-judged}
+use Rattle.edge.proofs.EdgeLaws.{record-held, cursor-held}
+use Rattle.edge.proofs.Written.{two-read, four-read, eight-read, are-written, are-both, set-read}
 
 -- numbers that are written as halves of halves
 four-back : (n : ℕ) → n % 65536 % 256 + 256 * (n % 65536 / 256) + 65536 * (n / 65536 % 256 + 256 * (n / 65536 / 256)) ≡ n

@@ -21,8 +21,8 @@ use Rattle.rule.specs.Refusals.{refusalNumber}
 use Rattle.rule.specs.Filling.{checked}
 use Rattle.rule.specs.Records.{yielded}
 use Rattle.rule.specs.Run.{freshOf, runOf}
-use Rattle.panel.specs.Layout.{Decoded.nothing, Decoded.holds, encodeRecord, recordIn, isRecordBytes, decodeRecord, stateNumber, encodeCursor, cursorIn, isCursorBytes, decodeCursor}
-use Rattle.panel.specs.Edge.{said, saidOf, checkSays, freshSays, shown, stopNumber, isRefused, unreadable, runSays}
+use Rattle.edge.specs.Layout.{Decoded.nothing, Decoded.holds, encodeRecord, recordIn, isRecordBytes, decodeRecord, stateNumber, encodeCursor, cursorIn, isCursorBytes, decodeCursor}
+use Rattle.edge.specs.Edge.{said, saidOf, checkSays, freshSays, shown, stopNumber, isRefused, unreadable, runSays}
 
 and-left : (a b : Bool) → a && b ≡ true → a ≡ true
 and-left true b e = refl

@@ -16,9 +16,9 @@ use Rattle.rule.specs.declared.rrule.Count.{Count}
 use Rattle.rule.specs.declared.rrule.Until.{Until}
 use Rattle.rule.specs.declared.rrule.Rule.{Rule}
 use Rattle.rule.specs.Filling.{frequencyNumber, frequency}
-use Rattle.panel.specs.Bytes.{twoAt, fourAt, eightAt, two, four, eight, areFlags, flagsAt, flagByte, flagBytes}
-use Rattle.panel.specs.Layout.{countTag, countNumber, untilTag, untilNumber, countFrom, untilFrom, isTagged, headBytes, dayBytes, timeBytes, encodeRecord, recordIn, isRecordBytes, stateNumber, stateOf, encodeCursor, cursorIn, isCursorBytes}
-use Rattle.panel.proofs.ByteLaws.{sets-behind, sets-whole, length-two, length-four, length-eight}
+use Rattle.edge.specs.Bytes.{twoAt, fourAt, eightAt, two, four, eight, areFlags, flagsAt, flagByte, flagBytes}
+use Rattle.edge.specs.Layout.{countTag, countNumber, untilTag, untilNumber, countFrom, untilFrom, isTagged, headBytes, dayBytes, timeBytes, encodeRecord, recordIn, isRecordBytes, stateNumber, stateOf, encodeCursor, cursorIn, isCursorBytes}
+use Rattle.edge.proofs.ByteLaws.{sets-behind, sets-whole, length-two, length-four, length-eight}
 
 -- a part is written, and the rest behind it
 behind : (l x y : List ℕ) (i k : ℕ) (part rest : List ℕ) → i + length part ≡ k → x ≡ sets l i part → y ≡ sets x k rest → y ≡ sets l i (part ++ rest)

@@ -1,0 +1,7 @@
+pub mod ByteLaws
+pub mod EdgeLaws
+pub mod LayoutLaws
+pub mod OneForm
+pub mod ReadBack
+pub mod Said
+pub mod Written
