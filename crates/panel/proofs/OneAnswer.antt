@@ -5,6 +5,7 @@ use Prim.Native.Nat.{ℕ}
 use mathlib.Core.Path.{ap}
 use mathlib.Core.List.{List}
 use Rattle.calendar.proofs.Determines.{DeterminesBuffer, one-answer}
+use Rattle.calendar.proofs.AsksNothing.{AsksNothing, nothing-asked}
 use Rattle.edge.specs.Edge.{Said, Shown, shown}
 use Rattle.panel.proofs.yomaveludge_check.Kinds as check-kinds
 use Rattle.panel.proofs.yomaveludge_check.Reads as check
@@ -24,3 +25,13 @@ fresh-has-one κs a x y e f p q = (ap (λ (z : Said). z .number) (one-answer p q
 pub run-has-one : DeterminesBuffer 6 run-kinds.ps run-kinds.r Shown (λ κs e. shown 0 (e .1 .0 .now) (e .1 .1 .0 .now) (e .1 .1 .1 .1 .0 .now) (e .1 .1 .1 .1 .1 .0 .now) (e .1 .1 .1 .1 .1 .1 .0 .now)) run.Post
 run-has-one κs a x y e f p q =
     (ap (λ (z : Shown). z .stop) (one-answer p q), ap (λ (z : Shown). shown 0 (z .cursor) (z .buffer) (z .moves) (z .handed) (z .cause)) (one-answer p q))
+
+-- none asks anything of C
+pub check-asks-nothing : AsksNothing 11 check-kinds.ps check.requires
+check-asks-nothing κs a = nothing-asked
+
+pub fresh-asks-nothing : AsksNothing 2 fresh-kinds.ps fresh.requires
+fresh-asks-nothing κs a = nothing-asked
+
+pub run-asks-nothing : AsksNothing 6 run-kinds.ps run.requires
+run-asks-nothing κs a = nothing-asked
