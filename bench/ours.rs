@@ -2,8 +2,8 @@
 
 use crate::rules::{Listed, Rule, START};
 
-const RECORD_LENGTH: usize = 2_563;
-const CURSOR_LENGTH: usize = 21;
+const RECORD_LENGTH: usize = 2_564;
+const CURSOR_LENGTH: usize = 22;
 const ENDED: u8 = 2;
 
 pub type Record = [u8; RECORD_LENGTH];

@@ -3,7 +3,7 @@
  * usage: random_bytes SEED SECONDS [ROUNDS]        it ends after the seconds, or after the rounds where they are given
  *
  * Every lent piece of memory has its exact size, so that valgrind sees a step beyond it. Half of the records and cursors are
- * good ones with some bytes changed, or cut, or longer; the others are good as they are, or nothing but noise.
+ * good ones with some bytes changed, or cut, or of another version; the others are good as they are, or nothing but noise.
  */
 #include <inttypes.h>
 #include <stdio.h>
@@ -66,7 +66,7 @@ static void add_noise(uint8_t *bytes, size_t length)
 static void change(uint8_t *bytes, size_t length)
 {
     for (unsigned times = 1 + below(4); times != 0; times--) {
-        size_t place = below(3) == 0 ? below(26) % length : below((unsigned)length);
+        size_t place = below(3) == 0 ? below(27) % length : below((unsigned)length);
         bytes[place] = below(4) == 0 ? (uint8_t)next_random() : (uint8_t)below(2);
     }
 }
@@ -129,16 +129,37 @@ static struct lists lend_lists(void)
     return lent;
 }
 
-/* A call of the check with numbers that are good most often. */
-static uint8_t call_check(struct lists l, uint8_t *record, size_t length)
+/* The numbers of a rule. */
+struct numbers {
+    uint64_t start;
+    uint64_t until;
+    uint32_t count;
+    uint16_t interval;
+    uint8_t frequency;
+    uint8_t counted;
+    uint8_t bounded;
+    uint8_t week_start;
+};
+
+/* Numbers that are good most often. */
+static struct numbers random_numbers(void)
 {
-    uint64_t start = below(30) == 0 ? next_random() : next_random() % 253402300800u;
-    uint64_t until = below(30) == 0 ? next_random() : start + next_random() % 1000000000u;
-    uint8_t frequency = (uint8_t)below(below(30) == 0 ? 256 : 7);
-    uint16_t interval = (uint16_t)below(below(9) == 0 ? 65536 : 5);
-    uint8_t week_start = (uint8_t)below(below(30) == 0 ? 256 : 7);
+    struct numbers n;
+    n.start = below(30) == 0 ? next_random() : next_random() % 253402300800u;
+    n.until = below(30) == 0 ? next_random() : n.start + next_random() % 1000000000u;
+    n.count = below(99);
+    n.interval = (uint16_t)below(below(9) == 0 ? 65536 : 5);
+    n.frequency = (uint8_t)below(below(30) == 0 ? 256 : 7);
+    n.counted = (uint8_t)below(3);
+    n.bounded = (uint8_t)below(3);
+    n.week_start = (uint8_t)below(below(30) == 0 ? 256 : 7);
+    return n;
+}
+
+static uint8_t call_check(struct numbers n, struct lists l, uint8_t *record, size_t length)
+{
     return yomaveludge_check(
-        frequency, interval, (uint8_t)below(3), below(99), (uint8_t)below(3), until, week_start, start,
+        n.frequency, n.interval, n.counted, n.count, n.bounded, n.until, n.week_start, n.start,
         l.entries[0], l.lengths[0], l.entries[1], l.lengths[1], l.entries[2], l.lengths[2], l.entries[3], l.lengths[3],
         l.entries[4], l.lengths[4], l.entries[5], l.lengths[5], l.entries[6], l.lengths[6], l.entries[7], l.lengths[7],
         l.entries[8], l.lengths[8], l.entries[9], l.lengths[9], record, length);
@@ -154,20 +175,29 @@ static void keep(const uint8_t *record)
     pooled++;
 }
 
+/* What the check answers for bytes of another length: the rule is judged first. */
+static uint8_t judged_alone(struct numbers numbers, struct lists lent)
+{
+    uint8_t record[YOMAVELUDGE_RECORD_LENGTH];
+    uint8_t answer = call_check(numbers, lent, record, sizeof record);
+    return answer == 0 ? 20 : answer;
+}
+
 static void try_check(void)
 {
+    struct numbers numbers = random_numbers();
     struct lists lent = lend_lists();
     size_t length = below(20) == 0 ? below(6000) : YOMAVELUDGE_RECORD_LENGTH;
     uint8_t before[6000];
     add_noise(before, length);
     uint8_t *record = lend(before, length);
-    uint8_t answer = call_check(lent, record, length);
+    uint8_t answer = call_check(numbers, lent, record, length);
     answers[0][answer]++;
     if (answer > 9 && answer != 20) {
         fail("check: no such answer", answer);
     }
-    if ((answer == 20) != (length != YOMAVELUDGE_RECORD_LENGTH)) {
-        fail("check: 20 is for the length alone", answer);
+    if (length == YOMAVELUDGE_RECORD_LENGTH ? answer == 20 : answer != judged_alone(numbers, lent)) {
+        fail("check: 20 is for the length of an accepted rule's bytes alone", answer);
     }
     if (answer != 0 && memcmp(record, before, length) != 0) {
         fail("check: refused, and the bytes are changed", answer);
@@ -181,10 +211,11 @@ static void try_check(void)
     }
 }
 
-/* The bytes of a record or a cursor and their length: good, changed, cut or noise. `kind` is 0 where they are good. */
+/* The bytes of a record or a cursor and their length: good, changed, cut, noise or of another version, which is the first byte.
+ * `kind` is 0 where they are good. */
 static size_t random_of(const uint8_t *good, size_t length, uint8_t *bytes, unsigned *kind)
 {
-    *kind = below(8) < 5 ? 0 : 1 + below(3);
+    *kind = below(8) < 5 ? 0 : 1 + below(4);
     memcpy(bytes, good, length);
     if (*kind == 1) {
         change(bytes, length);
@@ -194,6 +225,9 @@ static size_t random_of(const uint8_t *good, size_t length, uint8_t *bytes, unsi
     }
     if (*kind == 3) {
         add_noise(bytes, length);
+    }
+    if (*kind == 4) {
+        bytes[0] = (uint8_t)(bytes[0] + 1 + below(255));
     }
     return length;
 }
@@ -227,7 +261,7 @@ static void try_fresh(unsigned which)
         fail("fresh: a good record", answer);
     }
     if (kind > 1 && answer != 20) {
-        fail("fresh: cut or noise is taken", answer);
+        fail("fresh: cut, noise or another version is taken", answer);
     }
     if (answer != 0 && memcmp(cursor, before, room) != 0) {
         fail("fresh: refused, and the bytes are changed", answer);
@@ -331,8 +365,8 @@ static void try_run(unsigned which)
     if (record_kind == 0 && cursor_kind == 0 && c.answer > 2) {
         fail("run: a good cursor is refused", c.answer);
     }
-    if ((record_kind > 1 || cursor_kind == 2) && c.answer <= 2) {
-        fail("run: cut or noise is taken", c.answer);
+    if ((record_kind > 1 || cursor_kind == 2 || cursor_kind == 4) && c.answer <= 2) {
+        fail("run: cut, noise or another version is taken", c.answer);
     }
     if (c.answer > 2) {
         judge_refused(&c);

@@ -16,12 +16,13 @@ use Rattle.rule.specs.declared.rrule.Refusal.{Refusal}
 use Rattle.rule.specs.declared.rrule.Verdict.{Verdict}
 use Rattle.rule.specs.declared.rrule.Checked.{Checked}
 use Rattle.rule.specs.declared.rrule.Rule.{Rule}
-use Rattle.rule.specs.Raw.{RawLists, Raw, raw}
+use Rattle.rule.specs.Raw.{RawLists, raw}
 use Rattle.rule.specs.Refusals.{refusalNumber}
 use Rattle.rule.specs.Filling.{checked}
 use Rattle.rule.specs.Records.{yielded}
 use Rattle.rule.specs.Run.{freshOf, runOf}
-use Rattle.edge.specs.Layout.{Decoded.nothing, Decoded.holds, encodeRecord, recordIn, isRecordBytes, decodeRecord, stateNumber, encodeCursor, cursorIn, isCursorBytes, decodeCursor}
+use Rattle.edge.specs.Layout.{Decoded.nothing, Decoded.holds, encodeRecord, recordIn, isRecordBytes, decodeRecord}
+use Rattle.edge.specs.Layout.{stateNumber, encodeCursor, cursorIn, isCursorBytes, decodeCursor}
 use Rattle.edge.specs.Edge.{said, saidOf, checkSays, freshSays, shown, stopNumber, isRefused, unreadable, runSays}
 
 and-left : (a b : Bool) → a && b ≡ true → a ≡ true
@@ -29,13 +30,13 @@ and-left true b e = refl
 and-left false b e = e
 
 -- bytes that are taken have their length
-pub record-size : (bytes : List ℕ) → isRecordBytes bytes ≡ true → length bytes ≡ 2563
+pub record-size : (bytes : List ℕ) → isRecordBytes bytes ≡ true → length bytes ≡ 2564
 unfolding isRecordBytes
-record-size bytes e = eqb-true (length bytes) 2563 (and-left (eqb (length bytes) 2563) _ e)
+record-size bytes e = eqb-true (length bytes) 2564 (and-left (eqb (length bytes) 2564) _ e)
 
-pub cursor-size : (bytes : List ℕ) → isCursorBytes bytes ≡ true → length bytes ≡ 21
+pub cursor-size : (bytes : List ℕ) → isCursorBytes bytes ≡ true → length bytes ≡ 22
 unfolding isCursorBytes
-cursor-size bytes e = eqb-true (length bytes) 21 (and-left (eqb (length bytes) 21) _ e)
+cursor-size bytes e = eqb-true (length bytes) 22 (and-left (eqb (length bytes) 22) _ e)
 
 -- what bytes hold
 no-record : (bytes : List ℕ) → isRecordBytes bytes ≡ false → decodeRecord bytes ≡ nothing
@@ -55,23 +56,23 @@ unfolding decodeCursor
 cursor-held bytes c e f = rw (e, f)
 
 -- the check
-pub check-length : (given : Raw) (bytes : List ℕ) → (length bytes ≡ 2563 → ⊥) → said 20 bytes ≡ checkSays given bytes
-unfolding checkSays
-check-length given bytes h = rw (ne-eqb (length bytes) 2563 h)
-
 module _ (freq interval : ℕ) (count count′ : Count) (until until′ : Until) (wkst start : ℕ) (lists : RawLists) (v : Checked) (bytes : List ℕ)
-    (size : length bytes ≡ 2563) (ec : count ≡ count′) (eu : until ≡ until′) (ev : v ≡ checked (raw freq interval count until wkst start lists)) where
+    (ec : count ≡ count′) (eu : until ≡ until′) (ev : v ≡ checked (raw freq interval count until wkst start lists)) where
   pub check-refused : (refusal : Refusal) (n : ℕ) → v .verdict ≡ Verdict.Refused refusal → n ≡ refusalNumber refusal
       → said n bytes ≡ checkSays (raw freq interval count′ until′ wkst start lists) bytes
   unfolding checkSays
   check-refused refusal n e f =
-      rw (← ec, ← eu, eq-eqb (length bytes) 2563 size, ← ev) (ap (λ (k : ℕ). said k bytes) f ∙ ap (λ (a : Verdict). saidOf a (v .rule) bytes) (sym e))
+      rw (← ec, ← eu, ← ev) (ap (λ (k : ℕ). said k bytes) f ∙ ap (λ (a : Verdict). saidOf a (v .rule) bytes) (sym e))
 
-  pub check-accepted : (x : List ℕ) → v .verdict ≡ Verdict.Accepted → x ≡ encodeRecord (v .rule)
+  pub check-length : v .verdict ≡ Verdict.Accepted → (length bytes ≡ 2564 → ⊥)
+      → said 20 bytes ≡ checkSays (raw freq interval count′ until′ wkst start lists) bytes
+  unfolding checkSays
+  check-length e h = rw (← ec, ← eu, ← ev, e, ne-eqb (length bytes) 2564 h)
+
+  pub check-accepted : (x : List ℕ) → v .verdict ≡ Verdict.Accepted → length bytes ≡ 2564 → x ≡ encodeRecord (v .rule)
       → said 0 x ≡ checkSays (raw freq interval count′ until′ wkst start lists) bytes
   unfolding checkSays
-  check-accepted x e f =
-      rw (← ec, ← eu, eq-eqb (length bytes) 2563 size, ← ev) (ap (λ (l : List ℕ). said 0 l) f ∙ ap (λ (a : Verdict). saidOf a (v .rule) bytes) (sym e))
+  check-accepted x e l f = rw (← ec, ← eu, ← ev, e, eq-eqb (length bytes) 2564 l) (ap (λ (y : List ℕ). said 0 y) f)
 
 module _ (rulebytes cursorbytes : List ℕ) where
   -- the fresh cursor
@@ -84,14 +85,14 @@ module _ (rulebytes cursorbytes : List ℕ) where
     unfolding freshSays
     fresh-bad-record e = rw (held, e)
 
-    pub fresh-length : yielded r ≡ true → (length cursorbytes ≡ 21 → ⊥) → said 21 cursorbytes ≡ freshSays rulebytes cursorbytes
+    pub fresh-length : yielded r ≡ true → (length cursorbytes ≡ 22 → ⊥) → said 21 cursorbytes ≡ freshSays rulebytes cursorbytes
     unfolding freshSays
-    fresh-length e h = rw (held, e, ne-eqb (length cursorbytes) 21 h)
+    fresh-length e h = rw (held, e, ne-eqb (length cursorbytes) 22 h)
 
-    pub fresh-made : (c : Cursor) (x : List ℕ) → yielded r ≡ true → length cursorbytes ≡ 21 → c ≡ freshOf r → x ≡ encodeCursor c
+    pub fresh-made : (c : Cursor) (x : List ℕ) → yielded r ≡ true → length cursorbytes ≡ 22 → c ≡ freshOf r → x ≡ encodeCursor c
         → said 0 x ≡ freshSays rulebytes cursorbytes
     unfolding freshSays
-    fresh-made c x e l f g = rw (held, e, eq-eqb (length cursorbytes) 21 l) (ap (λ (y : List ℕ). said 0 y) (g ∙ ap encodeCursor f))
+    fresh-made c x e l f g = rw (held, e, eq-eqb (length cursorbytes) 22 l) (ap (λ (y : List ℕ). said 0 y) (g ∙ ap encodeCursor f))
 
   -- the run
   module _ (buffer : List ℕ) (m : ℕ) where

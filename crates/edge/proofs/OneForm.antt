@@ -12,7 +12,9 @@ use Rattle.calendar.specs.Calendar.{if_then_else_}
 use Rattle.calendar.proofs.Table.{same-below}
 use Rattle.rule.specs.Filling.{frequencyNumber, frequency}
 use Rattle.edge.specs.Bytes.{twoAt, fourAt, eightAt, four, eight, areFlags, flagsAt, flagBytes}
-use Rattle.edge.specs.Layout.{Decoded.nothing, Decoded.holds, countTag, countNumber, untilTag, untilNumber, countFrom, untilFrom, isTagged, headBytes, dayBytes, timeBytes, encodeRecord, recordIn, isRecordBytes, decodeRecord, stateNumber, stateOf, encodeCursor, cursorIn, isCursorBytes, decodeCursor}
+use Rattle.edge.specs.Layout.{Decoded.nothing, Decoded.holds, recordVersion, cursorVersion, countTag, countNumber, untilTag, untilNumber}
+use Rattle.edge.specs.Layout.{countFrom, untilFrom, isTagged, headBytes, dayBytes, timeBytes, encodeRecord, recordIn, isRecordBytes}
+use Rattle.edge.specs.Layout.{decodeRecord, stateNumber, stateOf, encodeCursor, cursorIn, isCursorBytes, decodeCursor}
 use Rattle.edge.specs.Claims.{AreBytes, RecordOneForm, CursorOneForm}
 use Rattle.edge.proofs.EdgeLaws.{record-size, cursor-size}
 use Rattle.edge.proofs.Written.{each, goes-on, two-at, four-at, eight-at, flags-again, flags-small}
@@ -71,69 +73,75 @@ module _ (bytes : List ℕ) (are : AreBytes bytes) where
       ≡ ((at i ∷ at (i + 1) ∷ []) ++ (at (i + 2) ∷ at (i + 2 + 1) ∷ [])) ++ ((at (i + 4) ∷ at (i + 4 + 1) ∷ []) ++ (at (i + 4 + 2) ∷ at (i + 4 + 2 + 1) ∷ []))
   eight-bytes i = eight-at bytes are i ∙ (λ d. four-bytes i d ++ four-bytes (i + 4) d)
 
-  head-again : at 0 < 7 → isTagged (at 3) (fourAt bytes 4) ≡ true → isTagged (at 8) (eightAt bytes 9) ≡ true
-      → headBytes (frequency (at 0)) (twoAt bytes 1) (countFrom (at 3) (fourAt bytes 4)) (untilFrom (at 8) (eightAt bytes 9)) (at 17) (eightAt bytes 18)
-      ≡ each bytes 26 0
+  head-again : at 0 ≡ recordVersion → at 1 < 7 → isTagged (at 4) (fourAt bytes 5) ≡ true → isTagged (at 9) (eightAt bytes 10) ≡ true
+      → recordVersion ∷ headBytes (frequency (at 1)) (twoAt bytes 2) (countFrom (at 4) (fourAt bytes 5)) (untilFrom (at 9) (eightAt bytes 10)) (at 18)
+      (eightAt bytes 19)
+      ≡ each bytes 27 0
   unfolding headBytes each
-  head-again f t u =
-      let c = count-again (at 3) (fourAt bytes 4) t in
-      let v = until-again (at 8) (eightAt bytes 9) u in
-      λ d. frequency-again (at 0) f d ∷ (two-at bytes are 1 d
-      ++ (c .0 d ∷ ((ap four (c .1) ∙ four-bytes 4) d
-      ++ (v .0 d ∷ ((ap eight (v .1) ∙ eight-bytes 9) d
-      ++ (at 17 ∷ eight-bytes 18 d))))))
+  head-again w f t u =
+      let c = count-again (at 4) (fourAt bytes 5) t in
+      let v = until-again (at 9) (eightAt bytes 10) u in
+      λ d. sym w d ∷ (frequency-again (at 1) f d ∷ (two-at bytes are 2 d
+      ++ (c .0 d ∷ ((ap four (c .1) ∙ four-bytes 5) d
+      ++ (v .0 d ∷ ((ap eight (v .1) ∙ eight-bytes 10) d
+      ++ (at 18 ∷ eight-bytes 19 d)))))))
 
-  sets-again : areFlags (drop 26 bytes) ≡ true → (i n : ℕ) → 26 ≤ i → flagBytes (flagsAt bytes i n) ≡ each bytes n i
+  sets-again : areFlags (drop 27 bytes) ≡ true → (i n : ℕ) → 27 ≤ i → flagBytes (flagsAt bytes i n) ≡ each bytes n i
   unfolding flagsAt
   sets-again f i n h =
       let z : i + 0 ≡ i = omega arith in
-      flags-again bytes i n 0 (λ j k. flags-small bytes 26 f j (omega arith)) ∙ ap (λ (k : ℕ). each bytes n k) z
+      flags-again bytes i n 0 (λ j k. flags-small bytes 27 f j (omega arith)) ∙ ap (λ (k : ℕ). each bytes n k) z
 
-  all-parts : length bytes ≡ 2563
-      → bytes ≡ each bytes 26 0 ++ (each bytes 12 26 ++ (each bytes 62 38 ++ (each bytes 732 100 ++ (each bytes 106 832 ++ (each bytes 749 938
-      ++ (each bytes 24 1687 ++ (each bytes 60 1711 ++ (each bytes 60 1771 ++ (each bytes 732 1831 ++ drop 2563 bytes)))))))))
+  all-parts : length bytes ≡ 2564
+      → bytes ≡ each bytes 27 0 ++ (each bytes 12 27 ++ (each bytes 62 39 ++ (each bytes 732 101 ++ (each bytes 106 833 ++ (each bytes 749 939
+      ++ (each bytes 24 1688 ++ (each bytes 60 1712 ++ (each bytes 60 1772 ++ (each bytes 732 1832 ++ drop 2564 bytes)))))))))
   all-parts l =
-      goes-on bytes 26 0 (omega arith)
-      ∙ ap (λ (x : List ℕ). each bytes 26 0 ++ x) (goes-on bytes 12 26 (omega arith)
-      ∙ ap (λ (x : List ℕ). each bytes 12 26 ++ x) (goes-on bytes 62 38 (omega arith)
-      ∙ ap (λ (x : List ℕ). each bytes 62 38 ++ x) (goes-on bytes 732 100 (omega arith)
-      ∙ ap (λ (x : List ℕ). each bytes 732 100 ++ x) (goes-on bytes 106 832 (omega arith)
-      ∙ ap (λ (x : List ℕ). each bytes 106 832 ++ x) (goes-on bytes 749 938 (omega arith)
-      ∙ ap (λ (x : List ℕ). each bytes 749 938 ++ x) (goes-on bytes 24 1687 (omega arith)
-      ∙ ap (λ (x : List ℕ). each bytes 24 1687 ++ x) (goes-on bytes 60 1711 (omega arith)
-      ∙ ap (λ (x : List ℕ). each bytes 60 1711 ++ x) (goes-on bytes 60 1771 (omega arith)
-      ∙ ap (λ (x : List ℕ). each bytes 60 1771 ++ x) (goes-on bytes 732 1831 (omega arith))))))))))
+      goes-on bytes 27 0 (omega arith)
+      ∙ ap (λ (x : List ℕ). each bytes 27 0 ++ x) (goes-on bytes 12 27 (omega arith)
+      ∙ ap (λ (x : List ℕ). each bytes 12 27 ++ x) (goes-on bytes 62 39 (omega arith)
+      ∙ ap (λ (x : List ℕ). each bytes 62 39 ++ x) (goes-on bytes 732 101 (omega arith)
+      ∙ ap (λ (x : List ℕ). each bytes 732 101 ++ x) (goes-on bytes 106 833 (omega arith)
+      ∙ ap (λ (x : List ℕ). each bytes 106 833 ++ x) (goes-on bytes 749 939 (omega arith)
+      ∙ ap (λ (x : List ℕ). each bytes 749 939 ++ x) (goes-on bytes 24 1688 (omega arith)
+      ∙ ap (λ (x : List ℕ). each bytes 24 1688 ++ x) (goes-on bytes 60 1712 (omega arith)
+      ∙ ap (λ (x : List ℕ). each bytes 60 1712 ++ x) (goes-on bytes 60 1772 (omega arith)
+      ∙ ap (λ (x : List ℕ). each bytes 60 1772 ++ x) (goes-on bytes 732 1832 (omega arith))))))))))
 
   record-judged : isRecordBytes bytes ≡ true
-      → (at 0 < 7) × (isTagged (at 3) (fourAt bytes 4) ≡ true) × (isTagged (at 8) (eightAt bytes 9) ≡ true) × (areFlags (drop 26 bytes) ≡ true)
+      → (at 0 ≡ recordVersion) × (at 1 < 7) × (isTagged (at 4) (fourAt bytes 5) ≡ true) × (isTagged (at 9) (eightAt bytes 10) ≡ true)
+      × (areFlags (drop 27 bytes) ≡ true)
   unfolding isRecordBytes
   record-judged e =
-      let a = and-both (eqb (length bytes) 2563) _ e in
-      let b = and-both (leb (at 0) 6) _ (a .1) in
-      let c = and-both (isTagged (at 3) (fourAt bytes 4)) _ (b .1) in
-      let d = and-both (isTagged (at 8) (eightAt bytes 9)) _ (c .1) in
-      (omega (arith, leb-true (at 0) 6 (b .0)), c .0, d .0, d .1)
+      let a = and-both (eqb (length bytes) 2564) _ e in
+      let v = and-both (eqb (at 0) recordVersion) _ (a .1) in
+      let b = and-both (leb (at 1) 6) _ (v .1) in
+      let c = and-both (isTagged (at 4) (fourAt bytes 5)) _ (b .1) in
+      let d = and-both (isTagged (at 9) (eightAt bytes 10)) _ (c .1) in
+      (eqb-true (at 0) recordVersion (v .0), omega (arith, leb-true (at 1) 6 (b .0)), c .0, d .0, d .1)
 
   record-again : isRecordBytes bytes ≡ true → encodeRecord (recordIn bytes) ≡ bytes
   unfolding encodeRecord dayBytes timeBytes recordIn
   record-again e =
       let j = record-judged e in
-      let f = j .3 in
+      let f = j .4 in
       let l = record-size bytes e in
-      let z : length bytes ≤ 2563 = omega arith in
-      (λ d. head-again (j .0) (j .1) (j .2) d
-      ++ ((sets-again f 26 12 (omega arith) d ++ (sets-again f 38 62 (omega arith) d ++ (sets-again f 100 732 (omega arith) d
-      ++ (sets-again f 832 106 (omega arith) d ++ sets-again f 938 749 (omega arith) d))))
-      ++ (sets-again f 1687 24 (omega arith) d ++ (sets-again f 1711 60 (omega arith) d ++ (sets-again f 1771 60 (omega arith) d ++ sets-again f 1831 732 (omega arith) d)))))
-      ∙ regroup (each bytes 26 0) (each bytes 12 26) (each bytes 62 38) (each bytes 732 100) (each bytes 106 832) (each bytes 749 938) (each bytes 24 1687)
-      (each bytes 60 1711) (each bytes 60 1771) (each bytes 732 1831) (drop 2563 bytes) (drop-of-length-le bytes z)
+      let z : length bytes ≤ 2564 = omega arith in
+      (λ d. head-again (j .0) (j .1) (j .2) (j .3) d
+      ++ ((sets-again f 27 12 (omega arith) d ++ (sets-again f 39 62 (omega arith) d ++ (sets-again f 101 732 (omega arith) d
+      ++ (sets-again f 833 106 (omega arith) d ++ sets-again f 939 749 (omega arith) d))))
+      ++ (sets-again f 1688 24 (omega arith) d ++ (sets-again f 1712 60 (omega arith) d ++ (sets-again f 1772 60 (omega arith) d
+      ++ sets-again f 1832 732 (omega arith) d)))))
+      ∙ regroup (each bytes 27 0) (each bytes 12 27) (each bytes 62 39) (each bytes 732 101) (each bytes 106 833) (each bytes 749 939) (each bytes 24 1688)
+      (each bytes 60 1712) (each bytes 60 1772) (each bytes 732 1832) (drop 2564 bytes) (drop-of-length-le bytes z)
       ∙ sym (all-parts l)
 
-  cursor-again : isCursorBytes bytes ≡ true → encodeCursor (cursorIn bytes) ≡ each bytes 21 0
+  cursor-again : isCursorBytes bytes ≡ true → encodeCursor (cursorIn bytes) ≡ each bytes 22 0
   unfolding encodeCursor cursorIn each isCursorBytes
   cursor-again e =
-      let s = and-both (eqb (length bytes) 21) (leb (at 0) 5) e .1 in
-      λ d. state-again (at 0) (omega (arith, leb-true (at 0) 5 s)) d ∷ (eight-bytes 1 d ++ (four-bytes 9 d ++ eight-bytes 13 d))
+      let a = and-both (eqb (length bytes) 22) _ e in
+      let s = and-both (eqb (at 0) cursorVersion) (leb (at 1) 5) (a .1) in
+      λ d. sym (eqb-true (at 0) cursorVersion (s .0)) d
+      ∷ (state-again (at 1) (omega (arith, leb-true (at 1) 5 (s .1))) d ∷ (eight-bytes 2 d ++ (four-bytes 10 d ++ eight-bytes 14 d)))
 
 held : {A : Type 0} (t : Bool) (v x : A) → (if t then holds v else nothing) ≡ holds x → (t ≡ true) × (v ≡ x)
 held true v x e = (refl, (cc))
@@ -149,8 +157,8 @@ pub cursor-one-form : CursorOneForm
 unfolding decodeCursor
 cursor-one-form bytes c are e =
     let h = held (isCursorBytes bytes) (cursorIn bytes) c e in
-    let l : length bytes ≡ 21 = cursor-size bytes (h .0) in
-    let z : length bytes ≤ 21 = omega arith in
+    let l : length bytes ≡ 22 = cursor-size bytes (h .0) in
+    let z : length bytes ≤ 22 = omega arith in
     ap encodeCursor (sym (h .1)) ∙ cursor-again bytes are (h .0)
-    ∙ sym (append-nil (each bytes 21 0)) ∙ ap (λ (x : List ℕ). each bytes 21 0 ++ x) (sym (drop-of-length-le bytes z))
-    ∙ sym (goes-on bytes 21 0 (omega arith))
+    ∙ sym (append-nil (each bytes 22 0)) ∙ ap (λ (x : List ℕ). each bytes 22 0 ++ x) (sym (drop-of-length-le bytes z))
+    ∙ sym (goes-on bytes 22 0 (omega arith))

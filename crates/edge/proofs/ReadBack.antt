@@ -1,10 +1,10 @@
 -- A record and a cursor that are written are read back.
 -- Assumes nothing.
-use Prim.Native.Nat.{ℕ, _+_, _*_, _/_, _%_}
+use Prim.Native.Nat.{ℕ, suc, _+_, _*_, _/_, _%_}
 use mathlib.Core.Path.{_≡_, refl, sym, ap, _∙_}
 use mathlib.Core.Bool.{Bool, true, _&&_}
-use mathlib.Core.List.{List, [], _++_, append-assoc, append-nil}
-use lib.Dec.{leb}
+use mathlib.Core.List.{List, [], _∷_, _++_, append-assoc, append-nil}
+use lib.Dec.{eqb, leb}
 use lib.ListN.{length, getD, drop, length-append, length-map}
 use Rattle.machine.specs.declared.Cause.{Cause}
 use Rattle.machine.specs.declared.State.{State}
@@ -16,7 +16,9 @@ use Rattle.rule.specs.declared.rrule.Rule.{Rule}
 use Rattle.rule.specs.Filling.{frequencyNumber, frequency}
 use Rattle.rule.specs.Records.{Sized}
 use Rattle.edge.specs.Bytes.{twoAt, fourAt, eightAt, areFlags, flagsAt, flagByte, flagBytes}
-use Rattle.edge.specs.Layout.{Decoded.holds, countTag, countNumber, untilTag, untilNumber, countFrom, untilFrom, isTagged, headBytes, dayBytes, timeBytes, encodeRecord, isRecordBytes, decodeRecord, stateNumber, stateOf, encodeCursor}
+use Rattle.edge.specs.Layout.{Decoded.holds, recordVersion, cursorVersion, countTag, countNumber, untilTag, untilNumber, countFrom, untilFrom}
+use Rattle.edge.specs.Layout.{isTagged, headBytes, dayBytes, timeBytes, encodeRecord, isRecordBytes, decodeRecord, stateNumber, stateOf}
+use Rattle.edge.specs.Layout.{encodeCursor}
 use Rattle.edge.specs.Claims.{RecordReadBack, CursorReadBack}
 use Rattle.edge.proofs.LayoutLaws.{length-head, length-days, length-times, record-read, record-judged, cursor-read, cursor-judged}
 use Rattle.edge.proofs.EdgeLaws.{record-held, cursor-held}
@@ -28,39 +30,43 @@ four-back n = (λ i. two-read (n % 65536) i + 65536 * two-read (n / 65536) i) �
 
 -- what the first bytes of a record are, whatever stands behind
 module _ (freq : Frequency) (interval : ℕ) (count : Count) (until : Until) (wkst start : ℕ) (rest : List ℕ) where
-  frequency-byte : getD (headBytes freq interval count until wkst start ++ rest) 0 0 ≡ frequencyNumber freq
+  version-byte : getD ((recordVersion ∷ headBytes freq interval count until wkst start) ++ rest) 0 0 ≡ recordVersion
+  unfolding headBytes
+  version-byte = refl
+
+  frequency-byte : getD ((recordVersion ∷ headBytes freq interval count until wkst start) ++ rest) 1 0 ≡ frequencyNumber freq
   unfolding headBytes
   frequency-byte = refl
 
-  count-byte : getD (headBytes freq interval count until wkst start ++ rest) 3 0 ≡ countTag count
+  count-byte : getD ((recordVersion ∷ headBytes freq interval count until wkst start) ++ rest) 4 0 ≡ countTag count
   unfolding headBytes
   count-byte = refl
 
-  until-byte : getD (headBytes freq interval count until wkst start ++ rest) 8 0 ≡ untilTag until
+  until-byte : getD ((recordVersion ∷ headBytes freq interval count until wkst start) ++ rest) 9 0 ≡ untilTag until
   unfolding headBytes
   until-byte = refl
 
-  wkst-byte : getD (headBytes freq interval count until wkst start ++ rest) 17 0 ≡ wkst
+  wkst-byte : getD ((recordVersion ∷ headBytes freq interval count until wkst start) ++ rest) 18 0 ≡ wkst
   unfolding headBytes
   wkst-byte = refl
 
-  interval-back : twoAt (headBytes freq interval count until wkst start ++ rest) 1 ≡ interval
+  interval-back : twoAt ((recordVersion ∷ headBytes freq interval count until wkst start) ++ rest) 2 ≡ interval
   unfolding headBytes twoAt
   interval-back = two-read interval
 
-  count-back : fourAt (headBytes freq interval count until wkst start ++ rest) 4 ≡ countNumber count
+  count-back : fourAt ((recordVersion ∷ headBytes freq interval count until wkst start) ++ rest) 5 ≡ countNumber count
   unfolding headBytes fourAt
   count-back = four-back (countNumber count)
 
-  until-back : eightAt (headBytes freq interval count until wkst start ++ rest) 9 ≡ untilNumber until
+  until-back : eightAt ((recordVersion ∷ headBytes freq interval count until wkst start) ++ rest) 10 ≡ untilNumber until
   unfolding headBytes eightAt
   until-back = let n = untilNumber until in (λ i. four-back (n % 4294967296) i + 4294967296 * four-back (n / 4294967296) i) ∙ eight-read n
 
-  start-back : eightAt (headBytes freq interval count until wkst start ++ rest) 18 ≡ start
+  start-back : eightAt ((recordVersion ∷ headBytes freq interval count until wkst start) ++ rest) 19 ≡ start
   unfolding headBytes eightAt
   start-back = (λ i. four-back (start % 4294967296) i + 4294967296 * four-back (start / 4294967296) i) ∙ eight-read start
 
-  behind-head : drop 26 (headBytes freq interval count until wkst start ++ rest) ≡ rest
+  behind-head : drop 27 ((recordVersion ∷ headBytes freq interval count until wkst start) ++ rest) ≡ rest
   unfolding headBytes
   behind-head = refl
 
@@ -135,7 +141,7 @@ in-order r head = simp (append-assoc, append-nil)
 
 module _ (r : Rule) (sized : Sized r) where
   abbrev head : List ℕ
-  head = headBytes (r .freq) (r .interval) (r .count) (r .until) (r .wkst) (r .start)
+  head = recordVersion ∷ headBytes (r .freq) (r .interval) (r .count) (r .until) (r .wkst) (r .start)
 
   abbrev tail : List ℕ
   tail = dayBytes r ++ timeBytes r
@@ -143,42 +149,48 @@ module _ (r : Rule) (sized : Sized r) where
   abbrev e : List ℕ
   e = head ++ tail
 
-  size : length e ≡ 2563
+  head-size : length head ≡ 27
+  head-size = ap suc (length-head (r .freq) (r .interval) (r .count) (r .until) (r .wkst) (r .start))
+
+  size : length e ≡ 2564
   size =
-      length-append head tail ∙ (λ d. length-head (r .freq) (r .interval) (r .count) (r .until) (r .wkst) (r .start) d
+      length-append head tail ∙ (λ d. head-size d
       + (length-append (dayBytes r) (timeBytes r)
       ∙ (λ j. length-days r (sized .bymonth) (sized .bymonthday) (sized .byyearday) (sized .byweekno) (sized .byday) j
       + length-times r (sized .byhour) (sized .byminute) (sized .bysecond) (sized .bysetpos) j)) d)
 
-  all-flags : areFlags (drop 26 e) ≡ true
+  all-flags : areFlags (drop 27 e) ≡ true
   all-flags = ap areFlags (behind-head (r .freq) (r .interval) (r .count) (r .until) (r .wkst) (r .start) tail)
       ∙ are-both (dayBytes r) (timeBytes r) (days-are r) (times-are r)
 
   is-record : isRecordBytes e ≡ true
   is-record =
-      let t : isTagged (getD e 3 0) (fourAt e 4) ≡ true =
+      let t : isTagged (getD e 4 0) (fourAt e 5) ≡ true =
       (λ d. isTagged (count-byte (r .freq) (r .interval) (r .count) (r .until) (r .wkst) (r .start) tail d)
       (count-back (r .freq) (r .interval) (r .count) (r .until) (r .wkst) (r .start) tail d)) ∙ count-tagged (r .count) in
-      let u : isTagged (getD e 8 0) (eightAt e 9) ≡ true =
+      let u : isTagged (getD e 9 0) (eightAt e 10) ≡ true =
       (λ d. isTagged (until-byte (r .freq) (r .interval) (r .count) (r .until) (r .wkst) (r .start) tail d)
       (until-back (r .freq) (r .interval) (r .count) (r .until) (r .wkst) (r .start) tail d)) ∙ until-tagged (r .until) in
-      let f : leb (getD e 0 0) 6 ≡ true =
+      let f : leb (getD e 1 0) 6 ≡ true =
       ap (λ (k : ℕ). leb k 6) (frequency-byte (r .freq) (r .interval) (r .count) (r .until) (r .wkst) (r .start) tail) ∙ frequency-known (r .freq) in
-      sym (record-judged e (fourAt e 4) (eightAt e 9) true true true size refl refl (sym t) (sym u) (sym all-flags)) ∙ (λ d. f d && (true && (true && true)))
+      let v : eqb (getD e 0 0) recordVersion ≡ true =
+      ap (λ (k : ℕ). eqb k recordVersion) (version-byte (r .freq) (r .interval) (r .count) (r .until) (r .wkst) (r .start) tail) in
+      sym (record-judged e (fourAt e 5) (eightAt e 10) true true true size refl refl (sym t) (sym u) (sym all-flags))
+      ∙ (λ d. v d && (f d && (true && (true && true))))
 
   read-back : decodeRecord e ≡ holds r
   read-back =
-      let p1 : Split e head _ 26 = record { is = in-order r head; size = length-head (r .freq) (r .interval) (r .count) (r .until) (r .wkst) (r .start) } in
-      let p2 = next e head _ (r .bymonth) 26 12 (sized .bymonth) p1 in
-      let p3 = next e _ _ (r .bymonthday) 38 62 (sized .bymonthday) p2 in
-      let p4 = next e _ _ (r .byyearday) 100 732 (sized .byyearday) p3 in
-      let p5 = next e _ _ (r .byweekno) 832 106 (sized .byweekno) p4 in
-      let p6 = next e _ _ (r .byday) 938 749 (sized .byday) p5 in
-      let p7 = next e _ _ (r .byhour) 1687 24 (sized .byhour) p6 in
-      let p8 = next e _ _ (r .byminute) 1711 60 (sized .byminute) p7 in
-      let p9 = next e _ _ (r .bysecond) 1771 60 (sized .bysecond) p8 in
+      let p1 : Split e head _ 27 = record { is = in-order r head; size = head-size } in
+      let p2 = next e head _ (r .bymonth) 27 12 (sized .bymonth) p1 in
+      let p3 = next e _ _ (r .bymonthday) 39 62 (sized .bymonthday) p2 in
+      let p4 = next e _ _ (r .byyearday) 101 732 (sized .byyearday) p3 in
+      let p5 = next e _ _ (r .byweekno) 833 106 (sized .byweekno) p4 in
+      let p6 = next e _ _ (r .byday) 939 749 (sized .byday) p5 in
+      let p7 = next e _ _ (r .byhour) 1688 24 (sized .byhour) p6 in
+      let p8 = next e _ _ (r .byminute) 1712 60 (sized .byminute) p7 in
+      let p9 = next e _ _ (r .bysecond) 1772 60 (sized .bysecond) p8 in
       record-held e r is-record
-      (record-read e (r .freq) (r .interval) (r .count) (r .until) (r .wkst) (r .start) (fourAt e 4) (eightAt e 9)
+      (record-read e (r .freq) (r .interval) (r .count) (r .until) (r .wkst) (r .start) (fourAt e 5) (eightAt e 10)
       (r .bymonth) (r .bymonthday) (r .byyearday) (r .byweekno) (r .byday) (r .byhour) (r .byminute) (r .bysecond) (r .bysetpos)
       (sym (ap frequency (frequency-byte (r .freq) (r .interval) (r .count) (r .until) (r .wkst) (r .start) tail) ∙ frequency-back (r .freq)))
       (sym (interval-back (r .freq) (r .interval) (r .count) (r .until) (r .wkst) (r .start) tail))
@@ -190,15 +202,15 @@ module _ (r : Rule) (sized : Sized r) where
       (until-back (r .freq) (r .interval) (r .count) (r .until) (r .wkst) (r .start) tail d)) ∙ until-again (r .until)))
       (sym (wkst-byte (r .freq) (r .interval) (r .count) (r .until) (r .wkst) (r .start) tail))
       (sym (start-back (r .freq) (r .interval) (r .count) (r .until) (r .wkst) (r .start) tail))
-      (read e _ _ (r .bymonth) 26 12 (sized .bymonth) p1)
-      (read e _ _ (r .bymonthday) 38 62 (sized .bymonthday) p2)
-      (read e _ _ (r .byyearday) 100 732 (sized .byyearday) p3)
-      (read e _ _ (r .byweekno) 832 106 (sized .byweekno) p4)
-      (read e _ _ (r .byday) 938 749 (sized .byday) p5)
-      (read e _ _ (r .byhour) 1687 24 (sized .byhour) p6)
-      (read e _ _ (r .byminute) 1711 60 (sized .byminute) p7)
-      (read e _ _ (r .bysecond) 1771 60 (sized .bysecond) p8)
-      (read e _ _ (r .bysetpos) 1831 732 (sized .bysetpos) p9))
+      (read e _ _ (r .bymonth) 27 12 (sized .bymonth) p1)
+      (read e _ _ (r .bymonthday) 39 62 (sized .bymonthday) p2)
+      (read e _ _ (r .byyearday) 101 732 (sized .byyearday) p3)
+      (read e _ _ (r .byweekno) 833 106 (sized .byweekno) p4)
+      (read e _ _ (r .byday) 939 749 (sized .byday) p5)
+      (read e _ _ (r .byhour) 1688 24 (sized .byhour) p6)
+      (read e _ _ (r .byminute) 1712 60 (sized .byminute) p7)
+      (read e _ _ (r .bysecond) 1772 60 (sized .bysecond) p8)
+      (read e _ _ (r .bysetpos) 1832 732 (sized .bysetpos) p9))
 
 pub record-read-back : RecordReadBack
 unfolding encodeRecord
@@ -223,28 +235,34 @@ state-known (State.Ended Cause.NoTick) = refl
 state-known (State.Ended Cause.Range) = refl
 
 module _ (c : Cursor) where
-  state-byte : getD (encodeCursor c) 0 0 ≡ stateNumber (c .state)
+  cursor-version : getD (encodeCursor c) 0 0 ≡ cursorVersion
+  unfolding encodeCursor
+  cursor-version = refl
+
+  state-byte : getD (encodeCursor c) 1 0 ≡ stateNumber (c .state)
   unfolding encodeCursor
   state-byte = refl
 
-  cursor-size : length (encodeCursor c) ≡ 21
+  cursor-size : length (encodeCursor c) ≡ 22
   unfolding encodeCursor
   cursor-size = refl
 
-  k-back : eightAt (encodeCursor c) 1 ≡ c .k
+  k-back : eightAt (encodeCursor c) 2 ≡ c .k
   unfolding encodeCursor eightAt
   k-back = (λ i. four-back (c .k % 4294967296) i + 4294967296 * four-back (c .k / 4294967296) i) ∙ eight-read (c .k)
 
-  place-back : fourAt (encodeCursor c) 9 ≡ c .place
+  place-back : fourAt (encodeCursor c) 10 ≡ c .place
   unfolding encodeCursor fourAt
   place-back = four-back (c .place)
 
-  number-back : eightAt (encodeCursor c) 13 ≡ c .number
+  number-back : eightAt (encodeCursor c) 14 ≡ c .number
   unfolding encodeCursor eightAt
   number-back = (λ i. four-back (c .number % 4294967296) i + 4294967296 * four-back (c .number / 4294967296) i) ∙ eight-read (c .number)
 
 pub cursor-read-back : CursorReadBack
 cursor-read-back c =
     let e = encodeCursor c in
-    cursor-held e c (sym (cursor-judged e (cursor-size c)) ∙ ap (λ (k : ℕ). leb k 5) (state-byte c) ∙ state-known (c .state))
+    let v : eqb (getD e 0 0) cursorVersion ≡ true = ap (λ (k : ℕ). eqb k cursorVersion) (cursor-version c) in
+    let s : leb (getD e 1 0) 5 ≡ true = ap (λ (k : ℕ). leb k 5) (state-byte c) ∙ state-known (c .state) in
+    cursor-held e c (sym (cursor-judged e (cursor-size c)) ∙ (λ d. v d && s d))
     (cursor-read e (c .state) (c .k) (c .place) (c .number) (sym (ap stateOf (state-byte c) ∙ state-back (c .state))) (sym (k-back c)) (sym (place-back c)) (sym (number-back c)))

@@ -1,13 +1,14 @@
 -- Which numbers the calls say, and that a refused call leaves what was lent as it was.
 -- Assumes nothing.
 use Prim.Native.Nat.{ℕ, _≤_, _<_}
-use mathlib.Core.Path.{_≡_, refl, ap}
-use mathlib.Core.Logic.{_⊎_, inl, inr}
-use mathlib.Core.Bool.{Bool, true, false, not}
+use mathlib.Core.Path.{_≡_, refl, sym, ap}
+use mathlib.Core.Logic.{_⊎_, inl, inr, ⊎-elim}
+use mathlib.Core.Bool.{Bool, true, false, not, _&&_}
 use mathlib.Core.List.{List}
 use native.Mathlib.Omega.{arith}
 use lib.Dec.{eqb}
-use lib.ListN.{length}
+use lib.ListN.{length, getD}
+use borrow.Author.Tests.{eq-eqb, ne-eqb}
 use Rattle.calendar.specs.Calendar.{if_then_else_}
 use Rattle.machine.specs.declared.Fault.{Fault}
 use Rattle.machine.specs.declared.Stop.{Stop}
@@ -22,49 +23,56 @@ use Rattle.rule.specs.Refusals.{refusalNumber}
 use Rattle.rule.specs.Filling.{checked}
 use Rattle.rule.specs.Records.{yielded}
 use Rattle.rule.specs.Run.{periods, freshOf, runOf}
-use Rattle.edge.specs.Layout.{Decoded, Decoded.nothing, Decoded.holds, recordLength, cursorLength, decodeRecord, encodeCursor, decodeCursor}
+use Rattle.edge.specs.Layout.{Decoded, Decoded.nothing, Decoded.holds, recordLength, recordVersion, encodeRecord, isRecordBytes, decodeRecord}
+use Rattle.edge.specs.Layout.{cursorLength, cursorVersion, encodeCursor, isCursorBytes, decodeCursor}
 use Rattle.edge.specs.Edge.{Said, said, saidOf, checkSays, freshFrom, freshSays, Shown, shown, shows, refusedShows, unreadable, runFrom, runSays}
-use Rattle.edge.specs.Claims.{CheckNumbers, CheckRefusedLeaves, FreshNumbers, FreshRefusedLeaves, RunNumbers, RunRefusedLeaves, RunOfWritten}
+use Rattle.edge.specs.Claims.{CheckOfRefused, CheckOfAccepted, IsOther, OtherRecordRefused, OtherCursorRefused, CheckNumbers}
+use Rattle.edge.specs.Claims.{CheckRefusedLeaves, FreshNumbers, FreshRefusedLeaves, RunNumbers, RunRefusedLeaves, RunOfWritten}
+use Rattle.edge.proofs.EdgeLaws.{fresh-no-record, run-no-record, run-no-cursor}
 use Rattle.edge.proofs.ReadBack.{record-read-back, cursor-read-back}
 
 never : {A : Type 0} (n : ℕ) → n < n → A
 never n h = absurd (omega arith)
 
 -- the check
-refusal-small : (r : Refusal) → refusalNumber r ≤ 9
-refusal-small Refusal.FrequencyAbove = omega arith
-refusal-small Refusal.WeekStartAbove = omega arith
-refusal-small Refusal.StartOut = omega arith
-refusal-small Refusal.UntilOut = omega arith
-refusal-small Refusal.EntryOut = omega arith
-refusal-small Refusal.NotRising = omega arith
-refusal-small Refusal.MixedDays = omega arith
-refusal-small Refusal.NthMisplaced = omega arith
-refusal-small Refusal.PositionsAlone = omega arith
+pub refusal-range : (r : Refusal) → (0 < refusalNumber r) × (refusalNumber r ≤ 9)
+refusal-range Refusal.FrequencyAbove = (omega arith, omega arith)
+refusal-range Refusal.WeekStartAbove = (omega arith, omega arith)
+refusal-range Refusal.StartOut = (omega arith, omega arith)
+refusal-range Refusal.UntilOut = (omega arith, omega arith)
+refusal-range Refusal.EntryOut = (omega arith, omega arith)
+refusal-range Refusal.NotRising = (omega arith, omega arith)
+refusal-range Refusal.MixedDays = (omega arith, omega arith)
+refusal-range Refusal.NthMisplaced = (omega arith, omega arith)
+refusal-range Refusal.PositionsAlone = (omega arith, omega arith)
 
-verdict-small : (v : Verdict) (r : Rule) (bytes : List ℕ) → saidOf v r bytes .number ≤ 9
-verdict-small (Verdict.Refused n) r bytes = refusal-small n
-verdict-small Verdict.Accepted r bytes = omega arith
-
-verdict-leaves : (v : Verdict) (r : Rule) (bytes : List ℕ) → 0 < saidOf v r bytes .number → saidOf v r bytes .bytes ≡ bytes
-verdict-leaves (Verdict.Refused n) r bytes h = refl
-verdict-leaves Verdict.Accepted r bytes h = never 0 h
+check-cases : (P : Said → Type 0) (v : Verdict) (r : Rule) (bytes : List ℕ) → ((n : Refusal) → P (said (refusalNumber n) bytes)) → P (said 20 bytes)
+    → P (said 0 (encodeRecord r)) → P (saidOf v r bytes)
+check-cases P (Verdict.Refused n) r bytes a b c = a n
+check-cases P Verdict.Accepted r bytes a b c = go (eqb (length bytes) recordLength)
+  where
+    go : (t : Bool) → P (if t then said 0 (encodeRecord r) else said 20 bytes)
+    go true = c
+    go false = b
 
 pub check-numbers : CheckNumbers
 unfolding checkSays
-check-numbers w bytes = go (eqb (length bytes) recordLength)
-  where
-    go : (t : Bool) → let x = (if t then saidOf (checked w .verdict) (checked w .rule) bytes else said 20 bytes) in (x .number ≤ 9) ⊎ (x .number ≡ 20)
-    go true = inl (verdict-small (checked w .verdict) (checked w .rule) bytes)
-    go false = inr refl
+check-numbers w bytes =
+    check-cases (λ x. (x .number ≤ 9) ⊎ (x .number ≡ 20)) (checked w .verdict) (checked w .rule) bytes
+    (λ n. inl (refusal-range n .1)) (inr refl) (inl (omega arith))
 
 pub check-refused-leaves : CheckRefusedLeaves
 unfolding checkSays
-check-refused-leaves w bytes = go (eqb (length bytes) recordLength)
-  where
-    go : (t : Bool) → let x = (if t then saidOf (checked w .verdict) (checked w .rule) bytes else said 20 bytes) in 0 < x .number → x .bytes ≡ bytes
-    go true = verdict-leaves (checked w .verdict) (checked w .rule) bytes
-    go false = λ h. refl
+check-refused-leaves w bytes =
+    check-cases (λ x. 0 < x .number → x .bytes ≡ bytes) (checked w .verdict) (checked w .rule) bytes (λ n h. refl) (λ h. refl) (λ h. never 0 h)
+
+pub check-of-refused : CheckOfRefused
+unfolding checkSays
+check-of-refused w bytes n e = rw e
+
+pub check-of-accepted : CheckOfAccepted
+unfolding checkSays
+check-of-accepted w bytes e = (λ l. rw (e, eq-eqb (length bytes) recordLength l), λ l. rw (e, ne-eqb (length bytes) recordLength l))
 
 -- the fresh cursor
 fresh-cases : (P : Said → Type 0) (d : Decoded Rule) (bytes : List ℕ) → P (said 20 bytes) → P (said 21 bytes) → ((r : Rule) → P (said 0 (encodeCursor (freshOf r))))
@@ -128,3 +136,29 @@ run-refused-leaves rulebytes cursorbytes buffer m = run-good (decodeRecord ruleb
 pub run-of-written : RunOfWritten
 unfolding runSays
 run-of-written r c buffer m sized = rw (record-read-back r sized, cursor-read-back c)
+
+-- bytes of another length or version hold nothing
+and-false : (a : Bool) → a && false ≡ false
+and-false true = refl
+and-false false = refl
+
+other-record : (bytes : List ℕ) → IsOther recordLength recordVersion bytes → isRecordBytes bytes ≡ false
+unfolding isRecordBytes
+other-record bytes h =
+    ⊎-elim (λ (l : length bytes ≡ recordLength → ⊥). rw (ne-eqb (length bytes) recordLength l))
+    (λ (v : getD bytes 0 0 ≡ recordVersion → ⊥). rw (ne-eqb (getD bytes 0 0) recordVersion v) (and-false (eqb (length bytes) recordLength))) h
+
+other-cursor : (bytes : List ℕ) → IsOther cursorLength cursorVersion bytes → isCursorBytes bytes ≡ false
+unfolding isCursorBytes
+other-cursor bytes h =
+    ⊎-elim (λ (l : length bytes ≡ cursorLength → ⊥). rw (ne-eqb (length bytes) cursorLength l))
+    (λ (v : getD bytes 0 0 ≡ cursorVersion → ⊥). rw (ne-eqb (getD bytes 0 0) cursorVersion v) (and-false (eqb (length bytes) cursorLength))) h
+
+pub other-record-refused : OtherRecordRefused
+other-record-refused rulebytes cursorbytes h =
+    let e = other-record rulebytes h in
+    (sym (fresh-no-record rulebytes cursorbytes e), λ buffer m. sym (run-no-record rulebytes cursorbytes buffer m e))
+
+pub other-cursor-refused : OtherCursorRefused
+other-cursor-refused rulebytes cursorbytes buffer m r held good h =
+    sym (run-no-cursor rulebytes cursorbytes buffer m r held 21 (other-cursor cursorbytes h) (ap unreadable (sym good)))

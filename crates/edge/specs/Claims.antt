@@ -1,17 +1,23 @@
--- What follows from the layout and from what the calls say. The proofs are in proofs: ReadBack, OneForm and Said.
+-- What follows from the layout and from what the calls say. The proofs are in proofs: ReadBack, OneForm and Said. What runs list is in Chains.
 -- Assumes nothing.
 use Prim.Native.Nat.{ℕ, _≤_, _<_}
 use mathlib.Core.Path.{_≡_}
 use mathlib.Core.Logic.{_⊎_}
+use mathlib.Core.Bool.{true}
 use mathlib.Core.List.{List}
-use lib.ListN.{getD}
+use lib.ListN.{length, getD}
 use Rattle.machine.specs.declared.Cursor.{Cursor}
+use Rattle.rule.specs.declared.rrule.Refusal.{Refusal}
+use Rattle.rule.specs.declared.rrule.Verdict.{Verdict}
 use Rattle.rule.specs.declared.rrule.Rule.{Rule}
 use Rattle.rule.specs.Raw.{Raw}
-use Rattle.rule.specs.Records.{Sized}
+use Rattle.rule.specs.Refusals.{refusalNumber}
+use Rattle.rule.specs.Filling.{checked}
+use Rattle.rule.specs.Records.{yielded, Sized}
 use Rattle.rule.specs.Run.{runOf}
-use Rattle.edge.specs.Layout.{Decoded.holds, encodeRecord, decodeRecord, encodeCursor, decodeCursor}
-use Rattle.edge.specs.Edge.{checkSays, freshSays, shown, shows, runSays}
+use Rattle.edge.specs.Layout.{Decoded.holds, recordLength, recordVersion, encodeRecord, decodeRecord, cursorLength, cursorVersion, encodeCursor}
+use Rattle.edge.specs.Layout.{decodeCursor}
+use Rattle.edge.specs.Edge.{said, checkSays, freshSays, shown, shows, runSays}
 
 -- every byte is below 256: so it is with all that comes from C
 abbrev pub AreBytes : List ℕ → Type 0
@@ -36,6 +42,29 @@ CursorOneForm = (bytes : List ℕ) (c : Cursor) → AreBytes bytes → decodeCur
 abbrev pub RunOfWritten : Type 0
 RunOfWritten =
     (r : Rule) (c : Cursor) (buffer : List ℕ) (m : ℕ) → Sized r → runSays (encodeRecord r) (encodeCursor c) buffer m ≡ shows (runOf r c buffer m) (encodeCursor c)
+
+-- The rule is judged first: one that is refused is answered with its own number, whatever bytes are lent; an accepted one with 20 where their length is
+-- another, and else with 0 and its record.
+abbrev pub CheckOfRefused : Type 0
+CheckOfRefused = (w : Raw) (bytes : List ℕ) (n : Refusal) → checked w .verdict ≡ Verdict.Refused n → checkSays w bytes ≡ said (refusalNumber n) bytes
+
+abbrev pub CheckOfAccepted : Type 0
+CheckOfAccepted = (w : Raw) (bytes : List ℕ) → checked w .verdict ≡ Verdict.Accepted
+    → (length bytes ≡ recordLength → checkSays w bytes ≡ said 0 (encodeRecord (checked w .rule)))
+    × ((length bytes ≡ recordLength → ⊥) → checkSays w bytes ≡ said 20 bytes)
+
+-- Bytes of another length or of another version are refused, whatever else they hold: a record's with 20, a cursor's with 21 where the record is good.
+abbrev pub IsOther : (length version : ℕ) → List ℕ → Type 0
+IsOther n version bytes = (length bytes ≡ n → ⊥) ⊎ (getD bytes 0 0 ≡ version → ⊥)
+
+abbrev pub OtherRecordRefused : Type 0
+OtherRecordRefused = (rulebytes cursorbytes : List ℕ) → IsOther recordLength recordVersion rulebytes
+    → (freshSays rulebytes cursorbytes ≡ said 20 cursorbytes)
+    × ((buffer : List ℕ) (m : ℕ) → runSays rulebytes cursorbytes buffer m ≡ shown 20 cursorbytes buffer 0 0 0)
+
+abbrev pub OtherCursorRefused : Type 0
+OtherCursorRefused = (rulebytes cursorbytes buffer : List ℕ) (m : ℕ) (r : Rule) → decodeRecord rulebytes ≡ holds r → yielded r ≡ true
+    → IsOther cursorLength cursorVersion cursorbytes → runSays rulebytes cursorbytes buffer m ≡ shown 21 cursorbytes buffer 0 0 0
 
 -- Only the numbers of the table are said, and a call that says one of a refusal leaves what was lent as it was.
 abbrev pub CheckNumbers : Type 0

@@ -18,7 +18,8 @@ use Rattle.rule.specs.Refusals.{refusalNumber}
 use Rattle.rule.specs.Filling.{checked}
 use Rattle.rule.specs.Records.{yielded}
 use Rattle.rule.specs.Run.{freshOf, runOf}
-use Rattle.edge.specs.Layout.{Decoded, Decoded.nothing, Decoded.holds, recordLength, encodeRecord, decodeRecord, cursorLength, stateNumber, encodeCursor, decodeCursor}
+use Rattle.edge.specs.Layout.{Decoded, Decoded.nothing, Decoded.holds, recordLength, encodeRecord, decodeRecord, cursorLength, stateNumber}
+use Rattle.edge.specs.Layout.{encodeCursor, decodeCursor}
 
 -- a call's number, with the bytes that it leaves
 pub record Said : Type 0 where
@@ -28,14 +29,14 @@ pub record Said : Type 0 where
 abbrev pub said : ℕ → List ℕ → Said
 said number bytes = record { number = number; bytes = bytes }
 
--- 0 and the record's bytes; or the number of the refusal, and the bytes as they were
+-- The check: the number of the refusal; where the rule is accepted, 20 if the bytes that the record is to be written to have another length; else 0 and
+-- the record's bytes.
 abbrev pub saidOf : Verdict → Rule → List ℕ → Said
 saidOf (Verdict.Refused refusal) r bytes = said (refusalNumber refusal) bytes
-saidOf Verdict.Accepted r bytes = said 0 (encodeRecord r)
+saidOf Verdict.Accepted r bytes = if eqb (length bytes) recordLength then said 0 (encodeRecord r) else said 20 bytes
 
--- The check: 20 where the bytes that the record is to be written to have another length, and else what the check says.
 unfoldable pub checkSays : Raw → List ℕ → Said
-checkSays w bytes = if eqb (length bytes) recordLength then saidOf (checked w .verdict) (checked w .rule) bytes else said 20 bytes
+checkSays w bytes = saidOf (checked w .verdict) (checked w .rule) bytes
 
 -- The fresh cursor: 20 where the record's bytes hold none that an accepted check yields, then 21 where the cursor's bytes have another length.
 abbrev pub freshFrom : Decoded Rule → List ℕ → Said

@@ -49,9 +49,14 @@ untilFrom tag t = if eqb tag 0 then Until.Absent else Until.At t
 abbrev pub isTagged : (tag number : ℕ) → Bool
 isTagged tag n = eqb tag 1 || (eqb tag 0 && eqb n 0)
 
--- A record has 2563 bytes. First 26: the frequency (0), INTERVAL (1, 2), COUNT (3 to 7), UNTIL (8 to 16), the week start (17), the start (18 to 25).
+-- A record has 2564 bytes. First the version (0), and 26 more: the frequency (1), INTERVAL (2, 3), COUNT (4 to 8), UNTIL (9 to 17), the week start (18),
+-- the start (19 to 26).
 abbrev pub recordLength : ℕ
-recordLength = 2563
+recordLength = 2564
+
+-- The version of a record's bytes. It goes up with each change of what they are or mean, so that bytes of another version are refused and not misread.
+abbrev pub recordVersion : ℕ
+recordVersion = 1
 
 unfoldable pub headBytes : Frequency → ℕ → Count → Until → (wkst start : ℕ) → List ℕ
 unfolding two four eight
@@ -61,8 +66,8 @@ headBytes freq interval count until wkst start =
     ++ (untilTag until ∷ (eight (untilNumber until)
     ++ (wkst ∷ eight start))))))
 
--- Then one byte for each flag of each set: BYMONTH from 26 on, BYMONTHDAY from 38, BYYEARDAY from 100, BYWEEKNO from 832, BYDAY from 938, BYHOUR from
--- 1687, BYMINUTE from 1711, BYSECOND from 1771, BYSETPOS from 1831.
+-- Then one byte for each flag of each set: BYMONTH from 27 on, BYMONTHDAY from 39, BYYEARDAY from 101, BYWEEKNO from 833, BYDAY from 939, BYHOUR from
+-- 1688, BYMINUTE from 1712, BYSECOND from 1772, BYSETPOS from 1832.
 unfoldable pub dayBytes : Rule → List ℕ
 dayBytes r =
     flagBytes (r .bymonth) ++ (flagBytes (r .bymonthday) ++ (flagBytes (r .byyearday) ++ (flagBytes (r .byweekno) ++ flagBytes (r .byday))))
@@ -72,46 +77,52 @@ timeBytes r = flagBytes (r .byhour) ++ (flagBytes (r .byminute) ++ (flagBytes (r
 
 unfoldable pub encodeRecord : Rule → List ℕ
 unfolding headBytes dayBytes timeBytes
-encodeRecord r = headBytes (r .freq) (r .interval) (r .count) (r .until) (r .wkst) (r .start) ++ (dayBytes r ++ timeBytes r)
+encodeRecord r =
+    recordVersion ∷ (headBytes (r .freq) (r .interval) (r .count) (r .until) (r .wkst) (r .start) ++ (dayBytes r ++ timeBytes r))
 
 -- the record that such bytes hold
 unfoldable pub recordIn : List ℕ → Rule
 unfolding twoAt fourAt eightAt flagsAt frequency
 recordIn bytes = record {
-  freq = frequency (getD bytes 0 0);
-  interval = twoAt bytes 1;
-  count = countFrom (getD bytes 3 0) (fourAt bytes 4);
-  until = untilFrom (getD bytes 8 0) (eightAt bytes 9);
-  wkst = getD bytes 17 0;
-  start = eightAt bytes 18;
-  bymonth = flagsAt bytes 26 12;
-  bymonthday = flagsAt bytes 38 62;
-  byyearday = flagsAt bytes 100 732;
-  byweekno = flagsAt bytes 832 106;
-  byday = flagsAt bytes 938 749;
-  byhour = flagsAt bytes 1687 24;
-  byminute = flagsAt bytes 1711 60;
-  bysecond = flagsAt bytes 1771 60;
-  bysetpos = flagsAt bytes 1831 732;
+  freq = frequency (getD bytes 1 0);
+  interval = twoAt bytes 2;
+  count = countFrom (getD bytes 4 0) (fourAt bytes 5);
+  until = untilFrom (getD bytes 9 0) (eightAt bytes 10);
+  wkst = getD bytes 18 0;
+  start = eightAt bytes 19;
+  bymonth = flagsAt bytes 27 12;
+  bymonthday = flagsAt bytes 39 62;
+  byyearday = flagsAt bytes 101 732;
+  byweekno = flagsAt bytes 833 106;
+  byday = flagsAt bytes 939 749;
+  byhour = flagsAt bytes 1688 24;
+  byminute = flagsAt bytes 1712 60;
+  bysecond = flagsAt bytes 1772 60;
+  bysetpos = flagsAt bytes 1832 732;
 }
 
--- Bytes of a record: the length, a frequency that exists, two tags with their numbers, and flags to the end.
+-- Bytes of a record: the length, the version, a frequency that exists, two tags with their numbers, and flags to the end.
 unfoldable pub isRecordBytes : List ℕ → Bool
 unfolding fourAt eightAt areFlags
 isRecordBytes bytes =
     eqb (length bytes) recordLength
-    && (leb (getD bytes 0 0) 6
-    && (isTagged (getD bytes 3 0) (fourAt bytes 4)
-    && (isTagged (getD bytes 8 0) (eightAt bytes 9)
-    && areFlags (drop 26 bytes))))
+    && (eqb (getD bytes 0 0) recordVersion
+    && (leb (getD bytes 1 0) 6
+    && (isTagged (getD bytes 4 0) (fourAt bytes 5)
+    && (isTagged (getD bytes 9 0) (eightAt bytes 10)
+    && areFlags (drop 27 bytes)))))
 
 unfoldable pub decodeRecord : List ℕ → Decoded Rule
 decodeRecord bytes = if isRecordBytes bytes then holds (recordIn bytes) else nothing
 
--- A cursor has 21 bytes: its state (0), k (1 to 8), the place (9 to 12), the number handed out (13 to 20). A state is 0 where running, else the number
--- of its cause.
+-- A cursor has 22 bytes: the version (0), its state (1), k (2 to 9), the place (10 to 13), the number handed out (14 to 21). A state is 0 where running,
+-- else the number of its cause.
 abbrev pub cursorLength : ℕ
-cursorLength = 21
+cursorLength = 22
+
+-- The version of a cursor's bytes, which goes up likewise: also where the layout stays and k, place or number come to mean something else.
+abbrev pub cursorVersion : ℕ
+cursorVersion = 1
 
 abbrev pub causeNumber : Cause → ℕ
 causeNumber Cause.Count = 1
@@ -126,7 +137,7 @@ stateNumber (State.Ended cause) = causeNumber cause
 
 unfoldable pub encodeCursor : Cursor → List ℕ
 unfolding four eight
-encodeCursor c = stateNumber (c .state) ∷ (eight (c .k) ++ (four (c .place) ++ eight (c .number)))
+encodeCursor c = cursorVersion ∷ (stateNumber (c .state) ∷ (eight (c .k) ++ (four (c .place) ++ eight (c .number))))
 
 -- a number above 5 is refused before it is asked for
 unfoldable pub stateOf : ℕ → State
@@ -141,10 +152,10 @@ stateOf n =
 unfoldable pub cursorIn : List ℕ → Cursor
 unfolding fourAt eightAt stateOf
 cursorIn bytes =
-    record { state = stateOf (getD bytes 0 0); k = eightAt bytes 1; place = fourAt bytes 9; number = eightAt bytes 13 }
+    record { state = stateOf (getD bytes 1 0); k = eightAt bytes 2; place = fourAt bytes 10; number = eightAt bytes 14 }
 
 unfoldable pub isCursorBytes : List ℕ → Bool
-isCursorBytes bytes = eqb (length bytes) cursorLength && leb (getD bytes 0 0) 5
+isCursorBytes bytes = eqb (length bytes) cursorLength && (eqb (getD bytes 0 0) cursorVersion && leb (getD bytes 1 0) 5)
 
 unfoldable pub decodeCursor : List ℕ → Decoded Cursor
 decodeCursor bytes = if isCursorBytes bytes then holds (cursorIn bytes) else nothing

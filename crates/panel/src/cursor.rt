@@ -1,4 +1,4 @@
-// A cursor as bytes.
+// A cursor as bytes, the version first.
 use crate::numbers::put_1;
 use crate::numbers::put_4;
 use crate::numbers::put_8;
@@ -11,7 +11,9 @@ ghost use mathlib.Core.Path.{_≡_};
 ghost use lib.ListN.{length};
 ghost use Rattle.edge.specs.Layout.{causeNumber, stateNumber, stateOf, encodeCursor, cursorIn, isCursorBytes};
 
-pub(crate) const CURSOR_LENGTH: usize = 21;
+pub(crate) const CURSOR_LENGTH: usize = 22;
+
+const CURSOR_VERSION: u8 = 1;
 
 fn cause_number(cause: Cause) -> u8
     ensures { λ r. ⌜ r ≡ causeNumber cause ⌝ }
@@ -62,17 +64,17 @@ pub(crate) fn is_cursor_bytes(bytes: &[u8]) -> bool
     if bytes.len() != CURSOR_LENGTH {
         return false;
     }
-    bytes[0] <= 5
+    (bytes[0] == CURSOR_VERSION) & (bytes[1] <= 5)
 }
 
 pub(crate) fn cursor_in(bytes: &[u8]) -> Cursor
-    requires { ⌜ length (now bytes) ≡ 21 ⌝ }
+    requires { ⌜ length (now bytes) ≡ 22 ⌝ }
     ensures { λ r. ⌜ r ≡ cursorIn (now (bytes .entry)) ⌝ }
 {
-    let state = state_of(bytes[0]);
-    let k = read_8(bytes, 1);
-    let place = read_4(bytes, 9) as u32;
-    let number = read_8(bytes, 13);
+    let state = state_of(bytes[1]);
+    let k = read_8(bytes, 2);
+    let place = read_4(bytes, 10) as u32;
+    let number = read_8(bytes, 14);
     Cursor {
         state,
         k,
@@ -82,12 +84,13 @@ pub(crate) fn cursor_in(bytes: &[u8]) -> Cursor
 }
 
 pub(crate) fn put_cursor(cursor: Cursor, bytes: &mut [u8])
-    requires { ⌜ length (now bytes) ≡ 21 ⌝ }
+    requires { ⌜ length (now bytes) ≡ 22 ⌝ }
     ensures { λ r. ⌜ now (bytes .exit) ≡ encodeCursor cursor ⌝ }
 {
     let state = cursor.state;
-    put_1(bytes, 0, state_number(state));
-    put_8(bytes, 1, cursor.k);
-    put_4(bytes, 9, cursor.place as u64);
-    put_8(bytes, 13, cursor.number);
+    put_1(bytes, 0, CURSOR_VERSION);
+    put_1(bytes, 1, state_number(state));
+    put_8(bytes, 2, cursor.k);
+    put_4(bytes, 10, cursor.place as u64);
+    put_8(bytes, 14, cursor.number);
 }

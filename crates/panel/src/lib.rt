@@ -60,9 +60,6 @@ pub extern "C" fn yomaveludge_check(
 ) -> u8
     ensures { λ r. ⌜ said r (now (rulebytes .exit)) ≡ checkSays (raw freq interval (countFrom counted count) (untilFrom bounded until) wkst start (rawLists (now (bymonth .entry)) (now (bymonthday .entry)) (now (byyearday .entry)) (now (byweekno .entry)) (now (bydayn .entry)) (now (bydayw .entry)) (now (byhour .entry)) (now (byminute .entry)) (now (bysecond .entry)) (now (bysetpos .entry)))) (now (rulebytes .entry)) ⌝ }
 {
-    if rulebytes.len() != RECORD_LENGTH {
-        return BAD_RECORD;
-    }
     let checked = check(
         freq,
         interval,
@@ -85,6 +82,9 @@ pub extern "C" fn yomaveludge_check(
     match verdict {
         Verdict::Refused(refusal) => return refusal_number(refusal),
         Verdict::Accepted => {}
+    }
+    if rulebytes.len() != RECORD_LENGTH {
+        return BAD_RECORD;
     }
     let rule = checked.rule;
     put_record(rule, rulebytes);

@@ -1,4 +1,4 @@
-// A record as bytes: 26 bytes of numbers, then one byte for each flag of each set.
+// A record as bytes: the version, 26 bytes of numbers, then one byte for each flag of each set.
 use crate::flags::are_flags;
 use crate::flags::flags_12;
 use crate::flags::flags_24;
@@ -25,9 +25,12 @@ ghost use Prim.Native.Nat.{_≤_};
 ghost use lib.ListN.{length};
 ghost use lib.Seq.{sets};
 ghost use Rattle.rule.specs.Filling.{frequency};
-ghost use Rattle.edge.specs.Layout.{countTag, countNumber, untilTag, untilNumber, countFrom, untilFrom, isTagged, headBytes, dayBytes, timeBytes, encodeRecord, recordIn, isRecordBytes};
+ghost use Rattle.edge.specs.Layout.{countTag, countNumber, untilTag, untilNumber, countFrom, untilFrom, isTagged, headBytes, dayBytes, timeBytes};
+ghost use Rattle.edge.specs.Layout.{encodeRecord, recordIn, isRecordBytes};
 
-pub(crate) const RECORD_LENGTH: usize = 2563;
+pub(crate) const RECORD_LENGTH: usize = 2564;
+
+const RECORD_VERSION: u8 = 1;
 
 fn frequency_of(number: u8) -> Frequency
     ensures { λ r. ⌜ r ≡ frequency number ⌝ }
@@ -123,31 +126,32 @@ pub(crate) fn is_record_bytes(bytes: &[u8]) -> bool
     if bytes.len() != RECORD_LENGTH {
         return false;
     }
-    let count = read_4(bytes, 4);
-    let until = read_8(bytes, 9);
-    (bytes[0] <= 6)
-        & (is_tagged(bytes[3], count) & (is_tagged(bytes[8], until) & are_flags(bytes, 26)))
+    let count = read_4(bytes, 5);
+    let until = read_8(bytes, 10);
+    (bytes[0] == RECORD_VERSION)
+        & ((bytes[1] <= 6)
+            & (is_tagged(bytes[4], count) & (is_tagged(bytes[9], until) & are_flags(bytes, 27))))
 }
 
 pub(crate) fn record_in(bytes: &[u8]) -> Rule
-    requires { ⌜ length (now bytes) ≡ 2563 ⌝ }
+    requires { ⌜ length (now bytes) ≡ 2564 ⌝ }
     ensures { λ r. ⌜ r ≡ recordIn (now (bytes .entry)) ⌝ }
 {
-    let freq = frequency_of(bytes[0]);
-    let interval = read_2(bytes, 1) as u16;
-    let count = count_from(bytes[3], read_4(bytes, 4) as u32);
-    let until = until_from(bytes[8], read_8(bytes, 9));
-    let wkst = bytes[17];
-    let start = read_8(bytes, 18);
-    let bymonth = flags_12(bytes, 26);
-    let bymonthday = flags_62(bytes, 38);
-    let byyearday = flags_732(bytes, 100);
-    let byweekno = flags_106(bytes, 832);
-    let byday = flags_749(bytes, 938);
-    let byhour = flags_24(bytes, 1687);
-    let byminute = flags_60(bytes, 1711);
-    let bysecond = flags_60(bytes, 1771);
-    let bysetpos = flags_732(bytes, 1831);
+    let freq = frequency_of(bytes[1]);
+    let interval = read_2(bytes, 2) as u16;
+    let count = count_from(bytes[4], read_4(bytes, 5) as u32);
+    let until = until_from(bytes[9], read_8(bytes, 10));
+    let wkst = bytes[18];
+    let start = read_8(bytes, 19);
+    let bymonth = flags_12(bytes, 27);
+    let bymonthday = flags_62(bytes, 39);
+    let byyearday = flags_732(bytes, 101);
+    let byweekno = flags_106(bytes, 833);
+    let byday = flags_749(bytes, 939);
+    let byhour = flags_24(bytes, 1688);
+    let byminute = flags_60(bytes, 1712);
+    let bysecond = flags_60(bytes, 1772);
+    let bysetpos = flags_732(bytes, 1832);
     Rule {
         freq,
         interval,
@@ -176,49 +180,50 @@ fn put_head(
     start: u64,
     bytes: &mut [u8],
 )
-    requires { ⌜ 26 ≤ length (now bytes) ⌝ }
-    ensures { λ r. ⌜ now (bytes .exit) ≡ sets (now (bytes .entry)) 0 (headBytes freq interval count until wkst start) ⌝ }
+    requires { ⌜ 27 ≤ length (now bytes) ⌝ }
+    ensures { λ r. ⌜ now (bytes .exit) ≡ sets (now (bytes .entry)) 1 (headBytes freq interval count until wkst start) ⌝ }
 {
-    put_1(bytes, 0, frequency_number(freq));
-    put_2(bytes, 1, interval as u32);
-    put_1(bytes, 3, count_tag(count));
-    put_4(bytes, 4, count_number(count) as u64);
-    put_1(bytes, 8, until_tag(until));
-    put_8(bytes, 9, until_number(until));
-    put_1(bytes, 17, wkst);
-    put_8(bytes, 18, start);
+    put_1(bytes, 1, frequency_number(freq));
+    put_2(bytes, 2, interval as u32);
+    put_1(bytes, 4, count_tag(count));
+    put_4(bytes, 5, count_number(count) as u64);
+    put_1(bytes, 9, until_tag(until));
+    put_8(bytes, 10, until_number(until));
+    put_1(bytes, 18, wkst);
+    put_8(bytes, 19, start);
 }
 
 // Writes the sets of months, days and weeks.
 fn put_days(rule: Rule, bytes: &mut [u8])
-    requires { ⌜ 1687 ≤ length (now bytes) ⌝ }
-    ensures { λ r. ⌜ (now (bytes .exit) ≡ sets (now (bytes .entry)) 26 (dayBytes rule)) × (length (dayBytes rule) ≡ 1661) ⌝ }
+    requires { ⌜ 1688 ≤ length (now bytes) ⌝ }
+    ensures { λ r. ⌜ (now (bytes .exit) ≡ sets (now (bytes .entry)) 27 (dayBytes rule)) × (length (dayBytes rule) ≡ 1661) ⌝ }
 {
-    put_flags(&rule.bymonth, bytes, 26);
-    put_flags(&rule.bymonthday, bytes, 38);
-    put_flags(&rule.byyearday, bytes, 100);
-    put_flags(&rule.byweekno, bytes, 832);
-    put_flags(&rule.byday, bytes, 938);
+    put_flags(&rule.bymonth, bytes, 27);
+    put_flags(&rule.bymonthday, bytes, 39);
+    put_flags(&rule.byyearday, bytes, 101);
+    put_flags(&rule.byweekno, bytes, 833);
+    put_flags(&rule.byday, bytes, 939);
 }
 
 // Writes the sets of hours, minutes and seconds, and the positions.
 fn put_times(rule: Rule, bytes: &mut [u8])
-    requires { ⌜ 2563 ≤ length (now bytes) ⌝ }
-    ensures { λ r. ⌜ (now (bytes .exit) ≡ sets (now (bytes .entry)) 1687 (timeBytes rule)) × (length (timeBytes rule) ≡ 876) ⌝ }
+    requires { ⌜ 2564 ≤ length (now bytes) ⌝ }
+    ensures { λ r. ⌜ (now (bytes .exit) ≡ sets (now (bytes .entry)) 1688 (timeBytes rule)) × (length (timeBytes rule) ≡ 876) ⌝ }
 {
-    put_flags(&rule.byhour, bytes, 1687);
-    put_flags(&rule.byminute, bytes, 1711);
-    put_flags(&rule.bysecond, bytes, 1771);
-    put_flags(&rule.bysetpos, bytes, 1831);
+    put_flags(&rule.byhour, bytes, 1688);
+    put_flags(&rule.byminute, bytes, 1712);
+    put_flags(&rule.bysecond, bytes, 1772);
+    put_flags(&rule.bysetpos, bytes, 1832);
 }
 
 pub(crate) fn put_record(rule: Rule, bytes: &mut [u8])
-    requires { ⌜ length (now bytes) ≡ 2563 ⌝ }
+    requires { ⌜ length (now bytes) ≡ 2564 ⌝ }
     ensures { λ r. ⌜ now (bytes .exit) ≡ encodeRecord rule ⌝ }
 {
     let freq = rule.freq;
     let count = rule.count;
     let until = rule.until;
+    put_1(bytes, 0, RECORD_VERSION);
     put_head(
         freq,
         rule.interval,

@@ -1,15 +1,10 @@
 -- `panel::yomaveludge_check` meets its contract: each way out is a case of what is said.
 -- Assumes nothing.
 use Rattle.rule.specs.Raw.{rawLists}
-use Rattle.edge.proofs.EdgeLaws.{check-length, check-refused, check-accepted}
+use Rattle.edge.proofs.EdgeLaws.{check-refused, check-length, check-accepted}
 use borrow.Author.Needs.{needs}
 use Rattle.panel.proofs.yomaveludge_check.Statement.{statement}
 use Rattle.panel.proofs.yomaveludge_check.Tie as tie
-
-returns : tie.Need-returns
-returns c =
-    let a = c .before .before .args in
-    check-length _ (a .rulebytes .now) (c .if1 .taken)
 
 count-from-requires : tie.Need-count-from-requires
 count-from-requires c κs = search needs
@@ -26,15 +21,28 @@ enum-known-verdict c = search needs
 refusal-number-requires : tie.Need-refusal-number-requires
 refusal-number-requires c κs = search needs
 
-returns-2 : tie.Need-returns-2
-returns-2 c =
-    let a = c .before .before .before .before .before .before .before .before .before .args in
+returns : tie.Need-returns
+returns c =
+    let a = c .before .before .before .before .before .before .before .before .args in
+    let k = c .before .before .before .before in
     check-refused (a .freq) (a .interval) _ _ _ _ (a .wkst) (a .start)
-    (rawLists (a .bymonth .now) (a .bymonthday .now) (a .byyearday .now) (a .byweekno .now) (a .bydayn .now) (a .bydayw .now) (a .byhour .now) (a .byminute .now) (a .bysecond .now) (a .bysetpos .now))
-    (c .before .before .before .before .check .result) (a .rulebytes .now) (c .before .before .before .before .before .before .before .if1 .left) (c .before .before .before .before .before .before .count-from .ensures) (c .before .before .before .before .before .until-from .ensures) (c .before .before .before .before .check .ensures) _ _ (c .before .before .verdict .given .1) (c .refusal-number .ensures)
+    (rawLists (a .bymonth .now) (a .bymonthday .now) (a .byyearday .now) (a .byweekno .now) (a .bydayn .now) (a .bydayw .now)
+    (a .byhour .now) (a .byminute .now) (a .bysecond .now) (a .bysetpos .now))
+    (k .check .result) (a .rulebytes .now) (k .before .before .count-from .ensures) (k .before .until-from .ensures) (k .check .ensures)
+    _ _ (c .before .before .verdict .given .1) (c .refusal-number .ensures)
 
 enum-told : tie.Need-enum-told
 enum-told c = search needs
+
+returns-2 : tie.Need-returns-2
+returns-2 c =
+    let a = c .before .before .before .before .before .before .before .args in
+    let k = c .before .before .before in
+    check-length (a .freq) (a .interval) _ _ _ _ (a .wkst) (a .start)
+    (rawLists (a .bymonth .now) (a .bymonthday .now) (a .byyearday .now) (a .byweekno .now) (a .bydayn .now) (a .bydayw .now)
+    (a .byhour .now) (a .byminute .now) (a .bysecond .now) (a .bysetpos .now))
+    (k .check .result) (a .rulebytes .now) (k .before .before .count-from .ensures) (k .before .until-from .ensures) (k .check .ensures)
+    (c .before .enum-told .given .1) (c .if1 .taken)
 
 put-record-requires : tie.Need-put-record-requires
 put-record-requires c κs = search needs
@@ -45,22 +53,26 @@ same-length c = search needs
 returns-3 : tie.Need-returns-3
 returns-3 c =
     let a = c .before .before .before .before .before .before .before .before .before .before .before .before .args in
+    let k = c .before .before .before .before .before .before .before .before in
     check-accepted (a .freq) (a .interval) _ _ _ _ (a .wkst) (a .start)
-    (rawLists (a .bymonth .now) (a .bymonthday .now) (a .byyearday .now) (a .byweekno .now) (a .bydayn .now) (a .bydayw .now) (a .byhour .now) (a .byminute .now) (a .bysecond .now) (a .bysetpos .now))
-    (c .before .before .before .before .before .before .before .check .result) (a .rulebytes .now) (c .before .before .before .before .before .before .before .before .before .before .if1 .left) (c .before .before .before .before .before .before .before .before .before .count-from .ensures) (c .before .before .before .before .before .before .before .before .until-from .ensures) (c .before .before .before .before .before .before .before .check .ensures) _ (c .before .before .before .before .before .enum-told .given .1) (c .before .before .put-record .ensures)
+    (rawLists (a .bymonth .now) (a .bymonthday .now) (a .byyearday .now) (a .byweekno .now) (a .bydayn .now) (a .bydayw .now)
+    (a .byhour .now) (a .byminute .now) (a .bysecond .now) (a .bysetpos .now))
+    (k .check .result) (a .rulebytes .now) (k .before .before .count-from .ensures) (k .before .until-from .ensures) (k .check .ensures)
+    _ (c .before .before .before .before .before .before .enum-told .given .1) (c .before .before .before .before .before .if1 .left)
+    (c .before .before .put-record .ensures)
 
 pub yomaveludge-check-spec : {M : Type 1} → statement M
 yomaveludge-check-spec =
     tie.close
     (tie.spec
-    returns
     count-from-requires
     until-from-requires
     check-requires
     enum-known-verdict
     refusal-number-requires
-    returns-2
+    returns
     enum-told
+    returns-2
     put-record-requires
     same-length
     returns-3)

@@ -11,8 +11,11 @@ returns c = cursor-length (c .before .args .bytes .now) (c .if1 .taken)
 shared-slice-read-result : tie.Need-shared-slice-read-result
 shared-slice-read-result c = search needs
 
+shared-slice-read-result-2 : tie.Need-shared-slice-read-result-2
+shared-slice-read-result-2 c = search needs
+
 returns-2 : tie.Need-returns-2
-returns-2 c = cursor-judged (c .before .before .args .bytes .now) (c .before .if1 .left)
+returns-2 c = cursor-judged (c .before .before .before .args .bytes .now) (c .before .before .if1 .left)
 
 pub is-cursor-bytes-spec : {M : Type 1} → statement M
-is-cursor-bytes-spec = tie.close (tie.spec returns shared-slice-read-result returns-2)
+is-cursor-bytes-spec = tie.close (tie.spec returns shared-slice-read-result shared-slice-read-result-2 returns-2)

@@ -5,11 +5,14 @@ use borrow.Author.Needs.{needs}
 use Rattle.panel.proofs.cursor.put_cursor.Statement.{statement}
 use Rattle.panel.proofs.cursor.put_cursor.Tie as tie
 
+put-1-requires : tie.Need-put-1-requires
+put-1-requires c κs = search needs
+
 state-number-requires : tie.Need-state-number-requires
 state-number-requires c κs = search needs
 
-put-1-requires : tie.Need-put-1-requires
-put-1-requires c κs = search needs
+put-1-requires-2 : tie.Need-put-1-requires-2
+put-1-requires-2 c κs = search needs
 
 put-8-requires : tie.Need-put-8-requires
 put-8-requires c κs = search needs
@@ -27,14 +30,23 @@ same-length : tie.Need-same-length
 same-length c = search needs
 
 returns : tie.Need-returns
-returns c = cursor-put (c .before .before .before .before .before .before .before .before .before .before .before .before .before .before .before .before .before .before .before .args .cursor) _ (c .before .before .before .before .before .before .before .before .before .before .before .before .before .before .before .before .before .before .before .args .bytes .now) _ _ _ _ (c .before .before .before .before .before .before .before .before .before .before .before .before .before .before .before .before .before .before .before .pre) (c .before .before .before .before .before .before .before .before .before .before .before .before .before .before .before .before .state-number .ensures) (c .before .before .before .before .before .before .before .before .before .before .before .before .before .before .before .put-1 .ensures) (c .before .before .before .before .before .before .before .before .before .before .before .put-8 .ensures) (c .before .before .before .before .before .before .put-4 .ensures) (c .before .before .put-82 .ensures)
+returns c =
+    let number = c .before .before in
+    let place = number .before .before .before .before in
+    let k = place .before .before .before .before .before in
+    let state = k .before .before .before .before in
+    let version = state .before .before .before .before .before in
+    let start = version .before .before .before in
+    cursor-put (start .args .cursor) _ (start .args .bytes .now) _ _ _ _ _ (start .pre) (state .before .state-number .ensures)
+    (version .put-1 .ensures) (state .put-12 .ensures) (k .put-8 .ensures) (place .put-4 .ensures) (number .put-82 .ensures)
 
 pub put-cursor-spec : {M : Type 1} → statement M
 put-cursor-spec =
     tie.close
     (tie.spec
-    state-number-requires
     put-1-requires
+    state-number-requires
+    put-1-requires-2
     put-8-requires
     cast-put-4
     put-4-requires

@@ -17,6 +17,9 @@ read-8-requires c κs = search needs
 shared-slice-read-result : tie.Need-shared-slice-read-result
 shared-slice-read-result c = search needs
 
+shared-slice-read-result-2 : tie.Need-shared-slice-read-result-2
+shared-slice-read-result-2 c = search needs
+
 shared-slice-read-is-tagged : tie.Need-shared-slice-read-is-tagged
 shared-slice-read-is-tagged c = search needs
 
@@ -33,7 +36,13 @@ are-flags-requires : tie.Need-are-flags-requires
 are-flags-requires c κs = search needs
 
 returns-2 : tie.Need-returns-2
-returns-2 c = record-judged (c .before .before .before .before .before .before .before .before .before .before .args .bytes .now) _ _ _ _ _ (c .before .before .before .before .before .before .before .before .if1 .left) (c .before .before .before .before .before .before .before .read-4 .ensures .0) (c .before .before .before .before .before .before .read-8 .ensures) (c .before .before .before .is-tagged .ensures) (c .before .is-tagged2 .ensures) (c .are-flags .ensures)
+returns-2 c =
+    let until = c .before in
+    let count = until .before .before in
+    let read = count .before .before .before .before in
+    record-judged (read .before .before .before .before .args .bytes .now) _ _ _ _ _ (read .before .before .if1 .left)
+    (read .before .read-4 .ensures .0) (read .read-8 .ensures)
+    (count .is-tagged .ensures) (until .is-tagged2 .ensures) (c .are-flags .ensures)
 
 pub is-record-bytes-spec : {M : Type 1} → statement M
 is-record-bytes-spec =
@@ -43,6 +52,7 @@ is-record-bytes-spec =
     read-4-requires
     read-8-requires
     shared-slice-read-result
+    shared-slice-read-result-2
     shared-slice-read-is-tagged
     is-tagged-requires
     shared-slice-read-is-tagged-2

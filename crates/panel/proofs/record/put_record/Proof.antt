@@ -5,6 +5,9 @@ use borrow.Author.Needs.{needs}
 use Rattle.panel.proofs.record.put_record.Statement.{statement}
 use Rattle.panel.proofs.record.put_record.Tie as tie
 
+put-1-requires : tie.Need-put-1-requires
+put-1-requires c κs = search needs
+
 put-head-requires : tie.Need-put-head-requires
 put-head-requires c κs = search needs
 
@@ -18,8 +21,15 @@ same-length : tie.Need-same-length
 same-length c = search needs
 
 returns : tie.Need-returns
-returns c = record-put (c .before .before .before .before .before .before .before .before .before .before .before .before .before .args .rule) (c .before .before .before .before .before .before .before .before .before .before .before .before .before .args .bytes .now) _ _ _ (c .before .before .before .before .before .before .before .before .before .before .before .before .before .pre) (c .before .before .before .before .before .before .put-days .ensures .1) (c .before .before .put-times .ensures .1) (c .before .before .before .before .before .before .before .before .before .before .put-head .ensures) (c .before .before .before .before .before .before .put-days .ensures .0) (c .before .before .put-times .ensures .0)
+returns c =
+    let times = c .before .before in
+    let days = times .before .before .before .before in
+    let head = days .before .before .before .before in
+    let version = head .before .before .before .before in
+    let start = version .before .before .before in
+    record-put (start .args .rule) (start .args .bytes .now) _ _ _ _ (start .pre) (days .put-days .ensures .1) (times .put-times .ensures .1)
+    (version .put-1 .ensures) (head .put-head .ensures) (days .put-days .ensures .0) (times .put-times .ensures .0)
 
 pub put-record-spec : {M : Type 1} → statement M
 put-record-spec =
-    tie.close (tie.spec put-head-requires put-days-requires put-times-requires same-length returns)
+    tie.close (tie.spec put-1-requires put-head-requires put-days-requires put-times-requires same-length returns)
