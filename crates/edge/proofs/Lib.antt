@@ -1,4 +1,5 @@
 pub mod ByteLaws
+pub mod Chains
 pub mod EdgeLaws
 pub mod LayoutLaws
 pub mod OneForm

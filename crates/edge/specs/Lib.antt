@@ -2,3 +2,4 @@ pub mod Bytes
 pub mod Layout
 pub mod Edge
 pub mod Claims
+pub mod Chains

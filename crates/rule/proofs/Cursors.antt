@@ -30,7 +30,7 @@ use Rattle.rule.proofs.Moved.{moves-by-one}
 use Rattle.rule.proofs.SoundPeriods.{ends, kept-rise, sound}
 use Rattle.rule.proofs.Demand.{good-start, good-wkst}
 
-lawful : (r : Rule) → yielded r ≡ true → Lawful (periods r)
+pub lawful : (r : Rule) → yielded r ≡ true → Lawful (periods r)
 unfolding periods
 lawful r good one = sound r one (good-wkst r good) (good-start r good)
 

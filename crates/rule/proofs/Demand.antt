@@ -209,7 +209,7 @@ unfolding answers
 answered-interval Verdict.Accepted q e = refl
 answered-interval (Verdict.Refused n) q e = absurd (let z : _≡_ {A = ℕ} 0 1 = cc in omega arith)
 
-interval-kept : (w : Raw) → checked w .verdict ≡ Verdict.Accepted → checked w .rule .interval ≡ w .interval
+pub interval-kept : (w : Raw) → checked w .verdict ≡ Verdict.Accepted → checked w .rule .interval ≡ w .interval
 unfolding checked given fill
 interval-kept w e = answered-interval (verdict w) (fill (given w)) e
 

@@ -161,7 +161,7 @@ in-range l e =
       bysetpos = k .1;
     }
 
-given-sized : (w : Raw) → Sized (given w)
+pub given-sized : (w : Raw) → Sized (given w)
 unfolding given givenAs
 given-sized w = record {
   bymonth = length-set-of 12 (entries months (w .lists .bymonth));
