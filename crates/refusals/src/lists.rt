@@ -6,7 +6,7 @@ ghost use Prim.Native.Nat.{_≤_};
 ghost use lib.ListN.{length};
 
 // The ten lists lie one behind another, with room for so many entries each.
-const ROOM: usize = 65536;
+const ROOM: usize = 32768;
 
 // BYDAY is two of them: n, and behind it the weekday.
 pub const BYDAY: usize = 4;
@@ -19,10 +19,10 @@ struct Entries {
 }
 
 // Room for ten lists.
-pub(crate) fn empty() -> [i16; 655360]
-    ensures { λ r. ⌜ 655360 ≡ length r ⌝ }
+pub(crate) fn empty() -> [i16; 327680]
+    ensures { λ r. ⌜ 327680 ≡ length r ⌝ }
 {
-    [0; 655360]
+    [0; 327680]
 }
 
 // Reads a list, whose text begins with its `=`.
@@ -153,7 +153,7 @@ pub(crate) fn list<'a, 'b>(which: usize, values: &'a [i16], counts: &'b [usize])
 }
 
 fn count_at(counts: &[usize], which: usize) -> usize
-    ensures { λ r. ⌜ r ≤ 65536 ⌝ }
+    ensures { λ r. ⌜ r ≤ 32768 ⌝ }
 {
     if counts.len() <= which {
         return 0;
