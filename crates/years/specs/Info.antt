@@ -29,15 +29,21 @@ askedOf r = record {
 }
 
 -- A table or a mask is made only where it is asked for; otherwise it is blank.
+abbrev pub noTable : List ℕ
+noTable = replicate 373 0
+
+abbrev pub noMask : List Bool
+noMask = replicate 373 false
+
 abbrev pub tableWhere : Bool → List ℕ → List ℕ
-tableWhere asked table = if asked then table else replicate 373 0
+tableWhere asked table = if asked then table else noTable
 
 abbrev pub maskWhere : Bool → List Bool → List Bool
-maskWhere asked mask = if asked then mask else replicate 373 false
+maskWhere asked mask = if asked then mask else noMask
 
--- No table and no mask is asked for.
-abbrev pub isBare : Asked → Bool
-isBare a = not (a .month || (a .monthday || (a .weekno || a .nth)))
+-- Something is asked for beside the table of months.
+abbrev pub asksMore : Asked → Bool
+asksMore a = a .monthday || (a .weekno || a .nth)
 
 -- a year with its tables and masks, each by itself
 abbrev pub infoBy : Year → (months monthdays fromends : List ℕ) → (weeks nths : List Bool) → IterInfo

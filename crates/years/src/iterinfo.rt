@@ -8,12 +8,10 @@ use weeks::yearinfo::Year;
 use weeks::yearinfo::week_no_mask;
 use weeks::yearinfo::year_info;
 ghost use mathlib.Core.Path.{_≡_};
-ghost use mathlib.Core.Bool.{false};
-ghost use lib.ListN.{replicate};
 ghost use Rattle.calendar.specs.Calendar.{monthTable, monthDayTable, fromEndTable};
 ghost use Rattle.weeks.specs.Weeks.{weekMask};
 ghost use Rattle.nths.specs.Masks.{nthMask};
-ghost use Rattle.years.specs.Info.{tableWhere, maskWhere, isBare, infoBy, infoOf};
+ghost use Rattle.years.specs.Info.{noTable, noMask, tableWhere, maskWhere, asksMore, infoBy, infoOf};
 
 // A year with its tables (the month of each place, its day of the month, and that from the month's end) and its masks. Each is blank
 // where the rule has no use for it.
@@ -71,24 +69,48 @@ fn nths_where(asked: bool, inyear: bool, year: Year, byday: &[bool; 749]) -> [bo
     neg_weekday_mask(inyear, year, byday)
 }
 
-// Whether no table and no mask is asked for.
-fn is_bare(asked: Asked) -> bool
-    ensures { λ r. ⌜ r ≡ isBare asked ⌝ }
+// Whether anything is asked for beside the table of months.
+fn asks_more(asked: Asked) -> bool
+    ensures { λ r. ⌜ r ≡ asksMore asked ⌝ }
 {
-    !(asked.month | (asked.monthday | (asked.weekno | asked.nth)))
+    asked.monthday | (asked.weekno | asked.nth)
 }
 
-// A year with nothing made: told apart, it costs one clearing of memory.
-fn bare_year(year: Year) -> IterInfo
-    ensures { λ r. ⌜ r ≡ infoBy year (replicate 373 0) (replicate 373 0) (replicate 373 0) (replicate 373 false) (replicate 373 false) ⌝ }
+// A year with its table of months, where that is asked for, and nothing else. Told apart, the rest costs one clearing of memory.
+fn month_year(asked: bool, year: Year) -> IterInfo
+    ensures { λ r. ⌜ r ≡ infoBy year (tableWhere asked (monthTable (year .long))) noTable noTable noMask noMask ⌝ }
+{
+    if !asked {
+        return IterInfo {
+            year,
+            months: [0; 373],
+            monthdays: [0; 373],
+            fromends: [0; 373],
+            weeks: [false; 373],
+            nths: [false; 373],
+        };
+    }
+    IterInfo {
+        year,
+        months: month_table(year.long),
+        monthdays: [0; 373],
+        fromends: [0; 373],
+        weeks: [false; 373],
+        nths: [false; 373],
+    }
+}
+
+// A year with its masks and no table.
+fn masked_year(year: Year, weeks: [bool; 373], nths: [bool; 373]) -> IterInfo
+    ensures { λ r. ⌜ r ≡ infoBy year noTable noTable noTable weeks nths ⌝ }
 {
     IterInfo {
         year,
         months: [0; 373],
         monthdays: [0; 373],
         fromends: [0; 373],
-        weeks: [false; 373],
-        nths: [false; 373],
+        weeks,
+        nths,
     }
 }
 
@@ -104,14 +126,17 @@ pub fn rebuild<'a>(
     ensures { λ r. ⌜ r ≡ infoOf asked inyear wkst (now (byweekno .entry)) (now (byday .entry)) number ⌝ }
 {
     let year = year_info(number);
-    if is_bare(asked) {
-        return bare_year(year);
+    if !asks_more(asked) {
+        return month_year(asked.month, year);
+    }
+    let weeks = weeks_where(asked.weekno, number, wkst, byweekno);
+    let nths = nths_where(asked.nth, inyear, year, byday);
+    if !(asked.month | asked.monthday) {
+        return masked_year(year, weeks, nths);
     }
     let months = months_where(asked.month, year.long);
     let monthdays = month_days_where(asked.monthday, year.long);
     let fromends = from_ends_where(asked.monthday, year.long);
-    let weeks = weeks_where(asked.weekno, number, wkst, byweekno);
-    let nths = nths_where(asked.nth, inyear, year, byday);
     IterInfo {
         year,
         months,

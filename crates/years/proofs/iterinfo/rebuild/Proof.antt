@@ -1,7 +1,8 @@
 -- `years::iterinfo::rebuild` meets its contract.
 -- Assumes nothing.
-use mathlib.Core.Path.{sym, _∙_}
-use Rattle.years.proofs.InfoLaws.{info-is, bare-is}
+use mathlib.Core.Path.{refl, sym, _∙_}
+use borrow.Author.Tests.{not-true}
+use Rattle.years.proofs.InfoLaws.{info-is, months-alone, masks-alone}
 use borrow.Author.Needs.{needs}
 use Rattle.years.proofs.iterinfo.rebuild.Statement.{statement}
 use Rattle.years.proofs.iterinfo.rebuild.Tie as tie
@@ -9,19 +10,38 @@ use Rattle.years.proofs.iterinfo.rebuild.Tie as tie
 year-info-requires : tie.Need-year-info-requires
 year-info-requires c κs = search needs
 
-is-bare-requires : tie.Need-is-bare-requires
-is-bare-requires c κs = search needs
+asks-more-requires : tie.Need-asks-more-requires
+asks-more-requires c κs = search needs
 
-bare-year-requires : tie.Need-bare-year-requires
-bare-year-requires c κs = search needs
+month-year-requires : tie.Need-month-year-requires
+month-year-requires c κs = search needs
 
 returns : tie.Need-returns
 returns c =
     let a = c .before .before .before .before .args in
     let y = c .before .before .before .year-info in
-    c .bare-year .ensures
-    ∙ bare-is (a .asked) (a .inyear) (a .wkst) (a .number) (a .byweekno .now) (a .byday .now) (y .result) (y .ensures)
-    (sym (c .before .before .is-bare .ensures) ∙ c .before .if1 .taken)
+    c .month-year .ensures
+    ∙ months-alone (a .asked) (a .inyear) (a .wkst) (a .number) (a .byweekno .now) (a .byday .now) (y .result) (y .ensures) _
+    (sym (c .before .before .asks-more .ensures) ∙ not-true _ (c .before .if1 .taken)) refl
+
+weeks-where-requires : tie.Need-weeks-where-requires
+weeks-where-requires c κs = search needs
+
+nths-where-requires : tie.Need-nths-where-requires
+nths-where-requires c κs = search needs
+
+masked-year-requires : tie.Need-masked-year-requires
+masked-year-requires c κs = search needs
+
+returns-2 : tie.Need-returns-2
+returns-2 c =
+    let masks = c .before .before .before in
+    let y = masks .before .before .before .before .year-info in
+    let a = masks .before .before .before .before .before .args in
+    c .masked-year .ensures
+    ∙ masks-alone (a .asked) (a .inyear) (a .wkst) (a .number) (a .byweekno .now) (a .byday .now) (y .result) (y .ensures)
+    (masks .before .weeks-where .result) (masks .nths-where .result) (not-true _ (c .before .if2 .taken))
+    (masks .before .weeks-where .ensures) (masks .nths-where .ensures)
 
 months-where-requires : tie.Need-months-where-requires
 months-where-requires c κs = search needs
@@ -32,34 +52,30 @@ month-days-where-requires c κs = search needs
 from-ends-where-requires : tie.Need-from-ends-where-requires
 from-ends-where-requires c κs = search needs
 
-weeks-where-requires : tie.Need-weeks-where-requires
-weeks-where-requires c κs = search needs
-
-nths-where-requires : tie.Need-nths-where-requires
-nths-where-requires c κs = search needs
-
-returns-2 : tie.Need-returns-2
-returns-2 c =
-    let a = c .before .before .before .before .before .before .before .before .args in
-    let y = c .before .before .before .before .before .before .before .year-info in
-    let ends = c .before .before in
+returns-3 : tie.Need-returns-3
+returns-3 c =
+    let masks = c .before .before .before .before .before in
+    let y = masks .before .before .before .before .year-info in
+    let a = masks .before .before .before .before .before .args in
     info-is (a .asked) (a .inyear) (a .wkst) (a .number) (a .byweekno .now) (a .byday .now) (y .result) (y .ensures)
-    (ends .before .before .months-where .result) (ends .before .month-days-where .result) (ends .from-ends-where .result)
-    (c .before .weeks-where .result) (c .nths-where .result)
-    (ends .before .before .months-where .ensures) (ends .before .month-days-where .ensures) (ends .from-ends-where .ensures)
-    (c .before .weeks-where .ensures) (c .nths-where .ensures)
+    (c .before .before .months-where .result) (c .before .month-days-where .result) (c .from-ends-where .result)
+    (masks .before .weeks-where .result) (masks .nths-where .result)
+    (c .before .before .months-where .ensures) (c .before .month-days-where .ensures) (c .from-ends-where .ensures)
+    (masks .before .weeks-where .ensures) (masks .nths-where .ensures)
 
 pub rebuild-spec : {M : Type 1} → statement M
 rebuild-spec =
     tie.close
     (tie.spec
     year-info-requires
-    is-bare-requires
-    bare-year-requires
+    asks-more-requires
+    month-year-requires
     returns
+    weeks-where-requires
+    nths-where-requires
+    masked-year-requires
+    returns-2
     months-where-requires
     month-days-where-requires
     from-ends-where-requires
-    weeks-where-requires
-    nths-where-requires
-    returns-2)
+    returns-3)
