@@ -200,14 +200,16 @@ loop-again : tie.Need-loop-again Inv-loop μ-loop Inv-days μ-days
 loop-again c =
     let k = c .before .before .before .before .before in
     let t = k .before .before in
-    let l = t .before .before in (
+    let l = t .before .before in
+    let a = l .before .before .before .before .before .before .before .before .before .before .before .before .args in
+    let s : k .second-on .result < a .bounds .start = omega (arith, c .if6 .taken) in (
       l .loop .inv .0,
       omega arith,
       omega arith,
       (omega arith, omega arith, omega arith, l .loop .inv .3 .3),
       l .loop .inv .4
           ∙ rest-pass _ _ _ _ _ (within t) _ (in-hand k) (free (k .before))
-          (on-time (c .before .before .before)) (c .if6 .taken),
+          (on-time (c .before .before .before)) s,
     )
 
 sub-buffer : tie.Need-sub-buffer Inv-loop μ-loop Inv-days μ-days
@@ -291,7 +293,8 @@ returns-4 : tie.Need-returns-4 Inv-loop μ-loop Inv-days μ-days
 returns-4 c =
     let t = c .before in
     let l = t .before .before in
-    sym (whole l ∙ rest-full _ _ _ _ _ (within t) (c .if4 .taken))
+    let e : l .loop .at .handed ≡ length (l .loop .buffer) = omega (arith, c .if4 .taken) in
+    sym (whole l ∙ rest-full _ _ _ _ _ (within t) e)
 
 same-length-3 : tie.Need-same-length-3 Inv-loop μ-loop Inv-days μ-days
 same-length-3 c = search needs
