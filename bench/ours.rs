@@ -4,7 +4,7 @@ use crate::rules::{Listed, Rule, START};
 
 const RECORD_LENGTH: usize = 2_564;
 const CURSOR_LENGTH: usize = 22;
-const ENDED: u8 = 2;
+const ENDED: u8 = 102;
 
 pub type Record = [u8; RECORD_LENGTH];
 type Cursor = [u8; CURSOR_LENGTH];

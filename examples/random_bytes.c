@@ -2,8 +2,9 @@
  *
  * usage: random_bytes SEED SECONDS [ROUNDS]        it ends after the seconds, or after the rounds where they are given
  *
- * Every lent piece of memory has its exact size, so that valgrind sees a step beyond it. Half of the records and cursors are
- * good ones with some bytes changed, or cut, or of another version; the others are good as they are, or nothing but noise.
+ * Every lent piece of memory has its exact size, so that valgrind sees a step beyond it; half of the empty ones are NULL. Of
+ * the records and cursors five in eight are good as they are; the others are good ones with some bytes changed, or cut, or of
+ * another version, or nothing but noise.
  */
 #include <inttypes.h>
 #include <stdio.h>
@@ -47,11 +48,16 @@ static void fail(const char *what, unsigned number)
 
 static void *lend(const void *bytes, size_t length)
 {
+    if (length == 0 && below(2) == 0) {
+        return NULL;
+    }
     void *copy = malloc(length == 0 ? 1 : length);
     if (copy == NULL) {
         fail("no memory", 0);
     }
-    memcpy(copy, bytes, length);
+    if (length != 0) {
+        memcpy(copy, bytes, length);
+    }
     return copy;
 }
 
@@ -129,7 +135,7 @@ static struct lists lend_lists(void)
     return lent;
 }
 
-/* The numbers of a rule. */
+/* The numbers of a rule: good most often. */
 struct numbers {
     uint64_t start;
     uint64_t until;
@@ -141,7 +147,6 @@ struct numbers {
     uint8_t week_start;
 };
 
-/* Numbers that are good most often. */
 static struct numbers random_numbers(void)
 {
     struct numbers n;
@@ -156,31 +161,36 @@ static struct numbers random_numbers(void)
     return n;
 }
 
-static uint8_t call_check(struct numbers n, struct lists l, uint8_t *record, size_t length)
+static uint8_t call_check(const struct numbers *n, const struct lists *l, uint8_t *record, size_t length)
 {
+    int16_t *const *e = l->entries;
+    const size_t *k = l->lengths;
     return yomaveludge_check(
-        n.frequency, n.interval, n.counted, n.count, n.bounded, n.until, n.week_start, n.start,
-        l.entries[0], l.lengths[0], l.entries[1], l.lengths[1], l.entries[2], l.lengths[2], l.entries[3], l.lengths[3],
-        l.entries[4], l.lengths[4], l.entries[5], l.lengths[5], l.entries[6], l.lengths[6], l.entries[7], l.lengths[7],
-        l.entries[8], l.lengths[8], l.entries[9], l.lengths[9], record, length);
+        n->frequency, n->interval, n->counted, n->count, n->bounded, n->until, n->week_start, n->start,
+        e[0], k[0], e[1], k[1], e[2], k[2], e[3], k[3], e[4], k[4],
+        e[5], k[5], e[6], k[6], e[7], k[7], e[8], k[8], e[9], k[9], record, length);
 }
 
 /* An accepted record goes into the pool, with its fresh cursor. */
 static void keep(const uint8_t *record)
 {
     memcpy(pool[pooled % POOL], record, YOMAVELUDGE_RECORD_LENGTH);
-    if (yomaveludge_fresh(record, YOMAVELUDGE_RECORD_LENGTH, cursors[pooled % POOL], YOMAVELUDGE_CURSOR_LENGTH) != 0) {
-        fail("fresh: a checked record is refused", 0);
+    uint8_t answer = yomaveludge_fresh(
+        record, YOMAVELUDGE_RECORD_LENGTH, cursors[pooled % POOL], YOMAVELUDGE_CURSOR_LENGTH);
+    if (answer != YOMAVELUDGE_ACCEPTED) {
+        fail("fresh: a checked record is refused", answer);
     }
     pooled++;
 }
 
-/* What the check answers for bytes of another length: the rule is judged first. */
-static uint8_t judged_alone(struct numbers numbers, struct lists lent)
+/* With no record to write to, the check still judges the rule: 20 says that it would accept. */
+static uint8_t expected_check(const struct numbers *numbers, const struct lists *lent, size_t length)
 {
-    uint8_t record[YOMAVELUDGE_RECORD_LENGTH];
-    uint8_t answer = call_check(numbers, lent, record, sizeof record);
-    return answer == 0 ? 20 : answer;
+    uint8_t judged = call_check(numbers, lent, NULL, 0);
+    if (judged == YOMAVELUDGE_ACCEPTED) {
+        fail("check: a record of no length is accepted", judged);
+    }
+    return judged == YOMAVELUDGE_BAD_RECORD && length == YOMAVELUDGE_RECORD_LENGTH ? YOMAVELUDGE_ACCEPTED : judged;
 }
 
 static void try_check(void)
@@ -191,18 +201,18 @@ static void try_check(void)
     uint8_t before[6000];
     add_noise(before, length);
     uint8_t *record = lend(before, length);
-    uint8_t answer = call_check(numbers, lent, record, length);
+    uint8_t answer = call_check(&numbers, &lent, record, length);
     answers[0][answer]++;
-    if (answer > 9 && answer != 20) {
+    if (answer > YOMAVELUDGE_POSITIONS_ALONE && answer != YOMAVELUDGE_BAD_RECORD) {
         fail("check: no such answer", answer);
     }
-    if (length == YOMAVELUDGE_RECORD_LENGTH ? answer == 20 : answer != judged_alone(numbers, lent)) {
-        fail("check: 20 is for the length of an accepted rule's bytes alone", answer);
+    if (answer != expected_check(&numbers, &lent, length)) {
+        fail("check: the rule is judged first, then the length", answer);
     }
-    if (answer != 0 && memcmp(record, before, length) != 0) {
+    if (YOMAVELUDGE_REFUSED(answer) && length != 0 && memcmp(record, before, length) != 0) {
         fail("check: refused, and the bytes are changed", answer);
     }
-    if (answer == 0) {
+    if (answer == YOMAVELUDGE_ACCEPTED) {
         keep(record);
     }
     free(record);
@@ -211,23 +221,24 @@ static void try_check(void)
     }
 }
 
-/* The bytes of a record or a cursor and their length: good, changed, cut, noise or of another version, which is the first byte.
- * `kind` is 0 where they are good. */
+/* What may have befallen the bytes of a record or a cursor. */
+enum { GOOD, CHANGED, CUT, OTHER_VERSION, NOISE };
+
 static size_t random_of(const uint8_t *good, size_t length, uint8_t *bytes, unsigned *kind)
 {
-    *kind = below(8) < 5 ? 0 : 1 + below(4);
+    *kind = below(8) < 5 ? GOOD : CHANGED + below(4);
     memcpy(bytes, good, length);
-    if (*kind == 1) {
+    if (*kind == CHANGED) {
         change(bytes, length);
     }
-    if (*kind == 2) {
+    if (*kind == CUT) {
         return below((unsigned)length);
     }
-    if (*kind == 3) {
-        add_noise(bytes, length);
-    }
-    if (*kind == 4) {
+    if (*kind == OTHER_VERSION) {
         bytes[0] = (uint8_t)(bytes[0] + 1 + below(255));
+    }
+    if (*kind == NOISE) {
+        add_noise(bytes, length);
     }
     return length;
 }
@@ -254,19 +265,19 @@ static void try_fresh(unsigned which)
     uint8_t *cursor = lend(before, room);
     uint8_t answer = yomaveludge_fresh(record, length, cursor, room);
     answers[1][answer]++;
-    if (answer != 0 && answer != 20 && answer != 21) {
+    if (answer != YOMAVELUDGE_ACCEPTED && answer != YOMAVELUDGE_BAD_RECORD && answer != YOMAVELUDGE_BAD_CURSOR) {
         fail("fresh: no such answer", answer);
     }
-    if (kind == 0 && answer != (room == YOMAVELUDGE_CURSOR_LENGTH ? 0 : 21)) {
+    if (kind == GOOD && answer != (room == YOMAVELUDGE_CURSOR_LENGTH ? YOMAVELUDGE_ACCEPTED : YOMAVELUDGE_BAD_CURSOR)) {
         fail("fresh: a good record", answer);
     }
-    if (kind > 1 && answer != 20) {
-        fail("fresh: cut, noise or another version is taken", answer);
+    if (kind > CHANGED && answer != YOMAVELUDGE_BAD_RECORD) {
+        fail("fresh: cut, another version or noise is taken", answer);
     }
-    if (answer != 0 && memcmp(cursor, before, room) != 0) {
+    if (YOMAVELUDGE_REFUSED(answer) && room != 0 && memcmp(cursor, before, room) != 0) {
         fail("fresh: refused, and the bytes are changed", answer);
     }
-    if (memcmp(record, bytes, length) != 0) {
+    if (length != 0 && memcmp(record, bytes, length) != 0) {
         fail("fresh: the record is changed", answer);
     }
     free(record);
@@ -294,13 +305,16 @@ struct call {
 /* What a run that is not refused keeps to. */
 static void judge_run(const struct call *c)
 {
+    if (c->answer < YOMAVELUDGE_MORE || c->answer > YOMAVELUDGE_ENDED) {
+        fail("run: no such stop", c->answer);
+    }
     if (c->handed > c->slots || c->made > c->moves) {
         fail("run: more than was lent", c->answer);
     }
-    if ((c->answer == 0 && c->handed != c->slots) || (c->answer == 1 && c->made != c->moves)) {
+    if ((c->answer == YOMAVELUDGE_MORE && c->handed != c->slots) || (c->answer == YOMAVELUDGE_LIMITED && c->made != c->moves)) {
         fail("run: stopped for no reason", c->answer);
     }
-    if ((c->answer == 2) != (c->cause != 0) || c->cause > 5) {
+    if ((c->answer == YOMAVELUDGE_ENDED) != (c->cause != YOMAVELUDGE_RUNNING) || c->cause > YOMAVELUDGE_BY_RANGE) {
         fail("run: the cause", c->cause);
     }
     for (size_t i = 0; i < c->handed; i++) {
@@ -308,7 +322,8 @@ static void judge_run(const struct call *c)
             fail("run: the instants", c->answer);
         }
     }
-    if (memcmp(c->buffer + c->handed, c->buffer_before + c->handed, (c->slots - c->handed) * sizeof(uint64_t)) != 0) {
+    size_t rest = c->slots - c->handed;
+    if (rest != 0 && memcmp(c->buffer + c->handed, c->buffer_before + c->handed, rest * sizeof(uint64_t)) != 0) {
         fail("run: slots past those handed out", c->answer);
     }
     answers[3][c->cause]++;
@@ -318,13 +333,13 @@ static void judge_run(const struct call *c)
 /* What a refused run keeps to: nothing is changed, and the counts are 0. */
 static void judge_refused(const struct call *c)
 {
-    if (c->answer != 20 && c->answer != 21) {
+    if (c->answer != YOMAVELUDGE_BAD_RECORD && c->answer != YOMAVELUDGE_BAD_CURSOR) {
         fail("run: no such answer", c->answer);
     }
-    if (memcmp(c->cursor, c->cursor_before, c->cursor_length) != 0) {
+    if (c->cursor_length != 0 && memcmp(c->cursor, c->cursor_before, c->cursor_length) != 0) {
         fail("run: refused, and the cursor is changed", c->answer);
     }
-    if (memcmp(c->buffer, c->buffer_before, c->slots * sizeof(uint64_t)) != 0) {
+    if (c->slots != 0 && memcmp(c->buffer, c->buffer_before, c->slots * sizeof(uint64_t)) != 0) {
         fail("run: refused, and the buffer is changed", c->answer);
     }
     if (c->made != 0 || c->handed != 0 || c->cause != 0) {
@@ -335,10 +350,11 @@ static void judge_refused(const struct call *c)
 static void call_run(struct call *c)
 {
     c->slots = below(SLOTS + 1);
+    size_t guards = c->slots == 0 ? 0 : GUARDS;
     add_noise((uint8_t *)c->buffer_before, sizeof c->buffer_before);
     c->record = lend(c->record_before, c->record_length);
     c->cursor = lend(c->cursor_before, c->cursor_length);
-    c->buffer = lend(c->buffer_before, (c->slots + GUARDS) * sizeof(uint64_t));
+    c->buffer = lend(c->buffer_before, (c->slots + guards) * sizeof(uint64_t));
     c->moves = below(24);
     c->made = 77;
     c->handed = 77;
@@ -346,10 +362,10 @@ static void call_run(struct call *c)
     c->answer = yomaveludge_run(
         c->record, c->record_length, c->cursor, c->cursor_length, c->buffer, c->slots, c->moves, &c->made, &c->handed, &c->cause);
     answers[2][c->answer]++;
-    if (memcmp(c->record, c->record_before, c->record_length) != 0) {
+    if (c->record_length != 0 && memcmp(c->record, c->record_before, c->record_length) != 0) {
         fail("run: the record is changed", c->answer);
     }
-    if (memcmp(c->buffer + c->slots, c->buffer_before + c->slots, GUARDS * sizeof(uint64_t)) != 0) {
+    if (guards != 0 && memcmp(c->buffer + c->slots, c->buffer_before + c->slots, guards * sizeof(uint64_t)) != 0) {
         fail("run: slots behind the buffer", c->answer);
     }
 }
@@ -362,17 +378,18 @@ static void try_run(unsigned which)
     c.record_length = random_record(c.record_before, which, &record_kind);
     c.cursor_length = random_cursor(c.cursor_before, which, &cursor_kind);
     call_run(&c);
-    if (record_kind == 0 && cursor_kind == 0 && c.answer > 2) {
+    int refused = YOMAVELUDGE_REFUSED(c.answer);
+    if (record_kind == GOOD && cursor_kind == GOOD && refused) {
         fail("run: a good cursor is refused", c.answer);
     }
-    if ((record_kind > 1 || cursor_kind == 2 || cursor_kind == 4) && c.answer <= 2) {
-        fail("run: cut, noise or another version is taken", c.answer);
+    if ((record_kind > CHANGED || cursor_kind == CUT || cursor_kind == OTHER_VERSION) && !refused) {
+        fail("run: cut, another version or noise is taken", c.answer);
     }
-    if (c.answer > 2) {
+    if (refused) {
         judge_refused(&c);
     } else {
         judge_run(&c);
-        if (record_kind == 0) {
+        if (record_kind == GOOD) {
             memcpy(cursors[which], c.cursor, c.cursor_length);
         }
     }

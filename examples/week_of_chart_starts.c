@@ -10,8 +10,6 @@
 
 #include "yomaveludge.h"
 
-static const int16_t none[1] = {0};
-
 static const int16_t hours[] = {6, 14, 22};
 
 /* The rule DAILY;UNTIL=2024-01-07T23:59:59Z;BYHOUR=6,14,22 from 2024-01-01T00:00:00Z. */
@@ -19,7 +17,7 @@ static uint8_t check_rule(uint8_t *record)
 {
     return yomaveludge_check(
         YOMAVELUDGE_DAILY, 1, 0, 0, 1, 1704671999, 0, 1704067200,
-        none, 0, none, 0, none, 0, none, 0, none, 0, none, 0, hours, 3, none, 0, none, 0, none, 0,
+        NULL, 0, NULL, 0, NULL, 0, NULL, 0, NULL, 0, NULL, 0, hours, 3, NULL, 0, NULL, 0, NULL, 0,
         record, YOMAVELUDGE_RECORD_LENGTH);
 }
 
@@ -55,20 +53,34 @@ static void print_instant(uint64_t instant)
     }
 }
 
-/* One call: the next starts, up to four. It returns the stop. */
+/* One call: the next starts, up to four. It returns the answer. */
 static uint8_t list_some(const uint8_t *record, uint8_t *cursor)
 {
     uint64_t buffer[4];
     uint32_t made;
     size_t handed;
     uint8_t cause;
-    uint8_t stop = yomaveludge_run(
+    uint8_t answer = yomaveludge_run(
         record, YOMAVELUDGE_RECORD_LENGTH, cursor, YOMAVELUDGE_CURSOR_LENGTH, buffer, 4, 100, &made, &handed, &cause);
-    printf("stop %d, cause %d, %" PRIu32 " moves, %zu handed out\n", stop, cause, made, handed);
+    printf("%s", yomaveludge_meaning(answer));
+    if (answer == YOMAVELUDGE_ENDED) {
+        printf(": %s", yomaveludge_cause_meaning(cause));
+    }
+    printf("; moves %" PRIu32 ", handed out %zu\n", made, handed);
     for (size_t i = 0; i < handed; i++) {
         print_instant(buffer[i]);
     }
-    return stop;
+    return answer;
+}
+
+/* Says why a call was refused, if it was. */
+static int is_refused(uint8_t answer)
+{
+    if (YOMAVELUDGE_REFUSED(answer)) {
+        fprintf(stderr, "week_of_chart_starts: %s\n", yomaveludge_meaning(answer));
+        return 1;
+    }
+    return 0;
 }
 
 int main(int argc, char **argv)
@@ -79,16 +91,16 @@ int main(int argc, char **argv)
     }
     uint8_t record[YOMAVELUDGE_RECORD_LENGTH];
     uint8_t cursor[YOMAVELUDGE_CURSOR_LENGTH];
-    if (check_rule(record) != YOMAVELUDGE_ACCEPTED) {
-        return 1;
-    }
-    if (yomaveludge_fresh(record, sizeof record, cursor, sizeof cursor) != YOMAVELUDGE_ACCEPTED) {
+    if (is_refused(check_rule(record)) || is_refused(yomaveludge_fresh(record, sizeof record, cursor, sizeof cursor))) {
         return 1;
     }
     for (;;) {
-        uint8_t stop = list_some(record, cursor);
-        if (stop >= YOMAVELUDGE_ENDED) {
-            return stop != YOMAVELUDGE_ENDED;
+        uint8_t answer = list_some(record, cursor);
+        if (is_refused(answer)) {
+            return 1;
+        }
+        if (answer == YOMAVELUDGE_ENDED) {
+            return 0;
         }
         if (!save(argv[1], cursor) || !restore(argv[1], cursor)) {
             perror(argv[1]);

@@ -1,19 +1,29 @@
-/* The due instants of a calendar rule, for C.
+/* The due instants of a calendar rule, for C and C++ on x86-64 alone: 64-bit pointers and the System V calls, as on Linux.
  *
- * Link with libpanel.a, which `rt staticlib panel` writes to target/staticlib/ (x86-64).
+ * `examples/install PREFIX` puts this header, libyomaveludge.a and yomaveludge.pc under PREFIX. docs/PANEL.md is the page for
+ * whoever builds a panel: power cuts, updates of the firmware, what a call costs.
  *
  * An instant is a count of UTC seconds since 1970-01-01T00:00:00Z, from 0 to 253402300799 (9999-12-31T23:59:59Z).
  * Weekdays are 0 to 6, Monday first.
  *
  * yomaveludge_check makes a record of a rule, yomaveludge_fresh the first cursor of a record, and yomaveludge_run lists
- * from a cursor on. A record and a cursor are bytes. Keep them, copy them, store them; what stands where in them is not
- * for callers, and may change with the library. Any bytes may be handed over: what no call has written is refused.
+ * from a cursor on. A record and a cursor are bytes. Keep them, copy them, store them. The first byte is their version; what
+ * stands in the others is not for callers, and may change with the library.
  *
- * What is asked of the caller, and of nothing else: each pointer is not NULL, is aligned for its type and reaches as many
- * elements as the length beside it says (one where there is no length), also where that is 0; and what a call may write
- * overlaps nothing else that is handed to it. Calls share nothing, so they may be made from many threads.
+ * Any bytes may be handed over. Bytes that hold no record are refused with 20, and bytes that hold no cursor of the record
+ * with 21. But a changed byte can make another good record, or another good cursor: an ended cursor is good whatever its
+ * numbers are. And nothing tells the cursors of two records apart. So store a cursor with the number of its rule, and with a
+ * checksum.
  *
- * Every call returns. Every promise below is proved of the code, for every input, and says each byte and slot to the last.
+ * What is asked of the caller, and nothing else: each pointer is aligned for its type and reaches as many elements as the
+ * length beside it says (one where there is no length); where that length is 0 it may be NULL. What a call may write overlaps
+ * nothing else that is handed to it, and no one else writes to what is handed over until the call is back. Calls share
+ * nothing, so they may be made from many threads.
+ *
+ * Every call returns. How long that takes is in the caller's hands: see yomaveludge_run.
+ *
+ * What stands under "Promise" is proved of the code, for every input, and says each byte and slot to the last;
+ * docs/PROMISES.md names the theorem for each sentence.
  */
 #ifndef YOMAVELUDGE_H
 #define YOMAVELUDGE_H
@@ -25,9 +35,24 @@
 extern "C" {
 #endif
 
+/* The version of this header and of the library that goes with it: one number, which goes up with each change that a caller
+ * can see. */
+#define YOMAVELUDGE_VERSION 1
+
+/* The versions of the bytes of a record and of a cursor. Each goes up with each change of its layout or of its meaning; a
+ * cursor's also where a rule that is accepted before and after would list other instants. Bytes of any other version are
+ * refused, with 20 or 21. So no update of the library takes a place for another one, which could hand out an instant twice or
+ * leave one out.
+ *
+ * Where bytes that were stored before an update are refused after it: check the rule anew, take the fresh cursor, run from
+ * there, and pass over each instant that was acted on. Those are told by time, since instants rise. So a panel stores, in
+ * bytes of its own, the rule as it gave it to the check, and the instant from which on nothing was acted on. */
+#define YOMAVELUDGE_RECORD_VERSION 1
+#define YOMAVELUDGE_CURSOR_VERSION 1
+
 /* The lengths of a record and of a cursor, in bytes. */
-#define YOMAVELUDGE_RECORD_LENGTH 2563
-#define YOMAVELUDGE_CURSOR_LENGTH 21
+#define YOMAVELUDGE_RECORD_LENGTH 2564
+#define YOMAVELUDGE_CURSOR_LENGTH 22
 
 /* Frequencies. */
 enum {
@@ -39,6 +64,8 @@ enum {
     YOMAVELUDGE_MINUTELY = 5,
     YOMAVELUDGE_SECONDLY = 6
 };
+
+/* The answers. Each number means the same whichever call gives it. */
 
 /* What yomaveludge_check and yomaveludge_fresh answer where they refuse nothing. */
 #define YOMAVELUDGE_ACCEPTED 0
@@ -60,12 +87,15 @@ enum {
 
 /* Why a run has stopped, where it isn't refused. */
 enum {
-    YOMAVELUDGE_MORE = 0,    /* the buffer is full */
-    YOMAVELUDGE_LIMITED = 1, /* every move allowed is made; the next call goes on from there */
-    YOMAVELUDGE_ENDED = 2    /* the listing is at its end: see the cause */
+    YOMAVELUDGE_MORE = 100,    /* the buffer is full */
+    YOMAVELUDGE_LIMITED = 101, /* every move allowed is made; the next call goes on from there */
+    YOMAVELUDGE_ENDED = 102    /* the listing is at its end: see the cause */
 };
 
-/* Why a listing is at its end. */
+/* Whether an answer is a refusal, of any of the three calls: neither "accepted" nor a stop. */
+#define YOMAVELUDGE_REFUSED(answer) ((answer) - 1u < YOMAVELUDGE_MORE - 1u)
+
+/* Why a listing is at its end. A cause is no answer: it has numbers of its own. */
 enum {
     YOMAVELUDGE_RUNNING = 0,     /* it isn't */
     YOMAVELUDGE_BY_COUNT = 1,    /* COUNT instants were handed out */
@@ -74,6 +104,43 @@ enum {
     YOMAVELUDGE_BY_NO_TICK = 4,  /* no later period can have one, however far the calendar runs */
     YOMAVELUDGE_BY_RANGE = 5     /* the next period begins after 9999 */
 };
+
+/* The meaning of an answer, of any of the three calls. */
+static inline const char *yomaveludge_meaning(uint8_t answer)
+{
+    switch (answer) {
+    case YOMAVELUDGE_ACCEPTED: return "accepted";
+    case YOMAVELUDGE_FREQUENCY_ABOVE: return "refused: the frequency is above 6";
+    case YOMAVELUDGE_WEEK_START_ABOVE: return "refused: the week start is above 6";
+    case YOMAVELUDGE_START_OUT: return "refused: the start is out of range";
+    case YOMAVELUDGE_UNTIL_OUT: return "refused: UNTIL is out of range";
+    case YOMAVELUDGE_ENTRY_OUT: return "refused: a list entry is outside its range, or BYDAY's two lists differ in length";
+    case YOMAVELUDGE_NOT_RISING: return "refused: a list doesn't rise strictly";
+    case YOMAVELUDGE_MIXED_DAYS: return "refused: BYDAY has entries with n = 0 and with n not 0";
+    case YOMAVELUDGE_NTH_MISPLACED: return "refused: n not 0 in BYDAY, with BYWEEKNO or a frequency neither YEARLY nor MONTHLY";
+    case YOMAVELUDGE_POSITIONS_ALONE: return "refused: BYSETPOS, and every other list empty";
+    case YOMAVELUDGE_BAD_RECORD: return "refused: the bytes are no record of this version that an accepted check yields";
+    case YOMAVELUDGE_BAD_CURSOR: return "refused: the bytes are no cursor of this version that is well formed for the record";
+    case YOMAVELUDGE_MORE: return "stopped: the buffer is full";
+    case YOMAVELUDGE_LIMITED: return "stopped: every move allowed is made";
+    case YOMAVELUDGE_ENDED: return "stopped: the listing is at its end";
+    default: return "no answer of this version";
+    }
+}
+
+/* The meaning of a cause. */
+static inline const char *yomaveludge_cause_meaning(uint8_t cause)
+{
+    switch (cause) {
+    case YOMAVELUDGE_RUNNING: return "not at its end";
+    case YOMAVELUDGE_BY_COUNT: return "COUNT instants were handed out";
+    case YOMAVELUDGE_BY_INTERVAL: return "INTERVAL is 0";
+    case YOMAVELUDGE_BY_UNTIL: return "the next instant is after UNTIL";
+    case YOMAVELUDGE_BY_NO_TICK: return "no later period can have an instant";
+    case YOMAVELUDGE_BY_RANGE: return "the next period begins after 9999";
+    default: return "no cause of this version";
+    }
+}
 
 /* The check of a rule.
  *
@@ -84,8 +151,9 @@ enum {
  *                    BYMINUTE and BYSECOND 0..59; BYSETPOS -366..-1 and 1..366. Each may be empty, and rises strictly;
  *                    BYDAY by n, then weekday.
  *
- * Promise: it answers 20 where record_length isn't YOMAVELUDGE_RECORD_LENGTH; else the lowest of 1 to 9 that applies; else
- * 0. With 0 the record's bytes are the rule, filled in from its start; with any other number they are as they were.
+ * Promise: it answers the lowest of 1 to 9 that applies; where none does, 20 if record_length isn't
+ * YOMAVELUDGE_RECORD_LENGTH, else 0. With 0 the record's bytes are the rule, filled in from its start; with any other number
+ * they are as they were.
  */
 uint8_t yomaveludge_check(
     uint8_t frequency, uint16_t interval, uint8_t counted, uint32_t count, uint8_t bounded, uint64_t until,
@@ -115,15 +183,21 @@ uint8_t yomaveludge_fresh(const uint8_t *record, size_t record_length, uint8_t *
  *
  * Promise: it answers 20 where the record's bytes are none that an accepted check yields; else 21 where the cursor's bytes
  * are none that is well formed for the record; and then the cursor's bytes and the buffer are as they were, and *moves_made,
- * *handed_out and *cause are 0. Else it answers 0, 1 or 2:
- *   0 (More)     the buffer is full: *handed_out is its length
- *   1 (Limited)  *moves_made is the budget
- *   2 (Ended)    *cause says why; from such a cursor nothing is handed out any more
+ * *handed_out and *cause are 0. Else it answers a stop:
+ *   100 (More)     the buffer is full: *handed_out is its length
+ *   101 (Limited)  *moves_made is the budget
+ *   102 (Ended)    *cause says why; from such a cursor nothing is handed out any more
  * The first *handed_out slots hold the next due instants, and the others are as they were; *moves_made is at most the
  * budget; *cause is 0 unless ended. The cursor's bytes are those of the place reached: the next run goes on there, in this
  * process or another. From the fresh cursor on, however the calls are cut, they hand out the instants that satisfy the rule,
  * each once, rising, with none left out up to the last. An end by Count has handed out COUNT of them; after any other end
  * none is left (INTERVAL 0 aside, which hands out nothing).
+ *
+ * Cost, as measured on one machine (docs/PANEL.md has the table; examples/costs.c measures yours): a call takes up to 0.01 ms,
+ * and up to 0.6 ms in the period of the start; an instant up to 0.0001 ms; a move up to 0.01 ms, but up to 0.3 ms with SECONDLY
+ * and a rare time. So a budget of 30 kept every rule's call within 10 ms, and one of 3,000 within 1 s; without SECONDLY, 1,000
+ * and 100,000. The largest budget can take a quarter of an hour in one call (SECONDLY;BYSECOND=0;BYSETPOS=2; ten minutes with
+ * SECONDLY;BYMONTH=2;BYMONTHDAY=30;BYHOUR=23).
  */
 uint8_t yomaveludge_run(
     const uint8_t *record, size_t record_length, uint8_t *cursor, size_t cursor_length,

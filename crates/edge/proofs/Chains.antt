@@ -85,14 +85,14 @@ call-cases P true g c x a b = go (wellFormed g c)
     go false = a Fault.Cursor
     go true = b refl
 
--- a run over any bytes: refused with a number above 2, or the run of a good record, from the cursor that the bytes hold
-run-cases : (rulebytes cursorbytes : List ℕ) (x : Call ℕ) (P : Shown → Type 0) → ((n : ℕ) → 2 < n → P (refusedShows n cursorbytes (x .buffer)))
+-- a run over any bytes: refused with a number below 100, or the run of a good record, from the cursor that the bytes hold
+run-cases : (rulebytes cursorbytes : List ℕ) (x : Call ℕ) (P : Shown → Type 0) → ((n : ℕ) → n < 100 → P (refusedShows n cursorbytes (x .buffer)))
     → ((r : Rule) (c : Cursor) → decodeRecord rulebytes ≡ holds r → yielded r ≡ true → P (shows (answered (run (periods r) c x)) cursorbytes))
     → P (runSays rulebytes cursorbytes (x .buffer) (x .budget))
 unfolding runSays runOf
 run-cases rulebytes cursorbytes x P a b = go (decodeRecord rulebytes) (decodeCursor cursorbytes) refl
   where
-    unread : (good : Bool) → 2 < unreadable good
+    unread : (good : Bool) → unreadable good < 100
     unread true = omega arith
     unread false = omega arith
 
@@ -107,17 +107,17 @@ run-cases rulebytes cursorbytes x P a b = go (decodeRecord rulebytes) (decodeCur
 
 pub run-keeps-to : RunKeeps
 run-keeps-to rulebytes cursorbytes x =
-    run-cases rulebytes cursorbytes x (λ s. s .stop ≤ 2 → RunKept x s) (λ n h l. absurd (omega arith))
+    run-cases rulebytes cursorbytes x (λ s. 100 ≤ s .stop → RunKept x s) (λ n h l. absurd (omega arith))
     (λ r c p good l.
     let k = run-keeps (periods r) c x in
     subst (RunKept x) (sym (answer-shown (periods r) c x (run (periods r) c x) k cursorbytes)) (kept (periods r) c x (run (periods r) c x) k))
 
--- a stop with 2 is an end
-ended-state : (g : Given ℕ) (c : Cursor) (x : Call ℕ) (o : Outcome ℕ) → KeepsTo g c x o → stopNumber (o .stop) ≡ 2
+-- a stop with 102 is an end
+ended-state : (g : Given ℕ) (c : Cursor) (x : Call ℕ) (o : Outcome ℕ) → KeepsTo g c x o → stopNumber (o .stop) ≡ 102
     → (cause : Cause) × (o .now .cursor .state ≡ State.Ended cause)
 ended-state g c x o k e = go (o .stop) e (k .reason)
   where
-    go : (t : Stop) → stopNumber t ≡ 2 → Reason g (x .budget) (o .now) t → (cause : Cause) × (o .now .cursor .state ≡ State.Ended cause)
+    go : (t : Stop) → stopNumber t ≡ 102 → Reason g (x .budget) (o .now) t → (cause : Cause) × (o .now .cursor .state ≡ State.Ended cause)
     go Stop.More e q = absurd (omega arith)
     go Stop.Limited e q = absurd (omega arith)
     go Stop.Ended e q = q
@@ -126,7 +126,7 @@ ended-state g c x o k e = go (o .stop) e (k .reason)
 -- a run from a cursor that has ended
 from-ended : (rulebytes : List ℕ) (r : Rule) (c : Cursor) (y : Call ℕ) (cause : Cause) → decodeRecord rulebytes ≡ holds r → yielded r ≡ true
     → c .state ≡ State.Ended cause
-    → runSays rulebytes (encodeCursor c) (y .buffer) (y .budget) ≡ shown 2 (encodeCursor c) (y .buffer) 0 0 (stateNumber (c .state))
+    → runSays rulebytes (encodeCursor c) (y .buffer) (y .budget) ≡ shown 102 (encodeCursor c) (y .buffer) 0 0 (stateNumber (c .state))
 unfolding runSays runOf
 from-ended rulebytes r c y cause p good e =
     let formed : WellFormed (periods r) c =
@@ -137,12 +137,12 @@ from-ended rulebytes r c y cause p good e =
 pub ended-stays : EndedStays
 ended-stays rulebytes cursorbytes x y =
     run-cases rulebytes cursorbytes x
-    (λ s. s .stop ≡ 2 → runSays rulebytes (s .cursor) (y .buffer) (y .budget) ≡ shown 2 (s .cursor) (y .buffer) 0 0 (s .cause))
+    (λ s. s .stop ≡ 102 → runSays rulebytes (s .cursor) (y .buffer) (y .budget) ≡ shown 102 (s .cursor) (y .buffer) 0 0 (s .cause))
     (λ n h l. absurd (omega arith))
     (λ r c p good.
     let k = run-keeps (periods r) c x in
     let o = run (periods r) c x in
-    subst (λ (s : Shown). s .stop ≡ 2 → runSays rulebytes (s .cursor) (y .buffer) (y .budget) ≡ shown 2 (s .cursor) (y .buffer) 0 0 (s .cause))
+    subst (λ (s : Shown). s .stop ≡ 102 → runSays rulebytes (s .cursor) (y .buffer) (y .budget) ≡ shown 102 (s .cursor) (y .buffer) 0 0 (s .cause))
     (sym (answer-shown (periods r) c x o k cursorbytes))
     (λ e. let d = ended-state (periods r) c x o k e in from-ended rulebytes r (o .now .cursor) y (d .0) p good (d .1)))
 
@@ -159,17 +159,17 @@ module _ (r : Rule) (sized : Sized r) where
   unfolding runOf
   one-run c x k = run-of-written r c (x .buffer) (x .budget) sized ∙ answer-shown (periods r) c x (callOf r c x) k (encodeCursor c)
 
-  stop-small : (c : Cursor) (x : Call ℕ) → StoppedFor x (shownOf c x) → shownOf c x .stop ≤ 2
-  stop-small c x p =
-      ⊎-elim (λ (a : (shownOf c x .stop ≡ 0) × (shownOf c x .handed ≡ length (x .buffer)) × (shownOf c x .cause ≡ 0)). omega (arith, a .0))
-      (λ b. ⊎-elim (λ (a : (shownOf c x .stop ≡ 1) × (shownOf c x .moves ≡ x .budget) × (shownOf c x .cause ≡ 0)). omega (arith, a .0))
-      (λ (a : (shownOf c x .stop ≡ 2) × (0 < shownOf c x .cause)). omega (arith, a .0)) b) p
+  stop-high : (c : Cursor) (x : Call ℕ) → StoppedFor x (shownOf c x) → 100 ≤ shownOf c x .stop
+  stop-high c x p =
+      ⊎-elim (λ (a : (shownOf c x .stop ≡ 100) × (shownOf c x .handed ≡ length (x .buffer)) × (shownOf c x .cause ≡ 0)). omega (arith, a .0))
+      (λ b. ⊎-elim (λ (a : (shownOf c x .stop ≡ 101) × (shownOf c x .moves ≡ x .budget) × (shownOf c x .cause ≡ 0)). omega (arith, a .0))
+      (λ (a : (shownOf c x .stop ≡ 102) × (0 < shownOf c x .cause)). omega (arith, a .0)) b) p
 
   none-refused : (c : Cursor) (xs : List (Call ℕ)) → Keep c xs → NoneRefused (encodeRecord r) (encodeCursor c) xs
   none-refused c [] k = tt
   none-refused c (x ∷ xs) k =
-      subst (λ (s : Shown). (s .stop ≤ 2) × NoneRefused (encodeRecord r) (s .cursor) xs) (sym (one-run c x (k .0)))
-      (stop-small c x (kept (periods r) c x (callOf r c x) (k .0) .stopped), none-refused (callOf r c x .now .cursor) xs (k .1))
+      subst (λ (s : Shown). (100 ≤ s .stop) × NoneRefused (encodeRecord r) (s .cursor) xs) (sym (one-run c x (k .0)))
+      (stop-high c x (kept (periods r) c x (callOf r c x) (k .0) .stopped), none-refused (callOf r c x .now .cursor) xs (k .1))
 
   told : (c : Cursor) (xs : List (Call ℕ)) → Keep c xs → runsTell (encodeRecord r) (encodeCursor c) (stateNumber (c .state)) xs
       ≡ record { listed = chain (callOf r) c xs .listed; cause = stateNumber (chain (callOf r) c xs .cursor .state) }

@@ -98,7 +98,7 @@ fresh-refused-leaves rulebytes cursorbytes =
 -- the run: refused before it begins, refused by the run itself, or answered
 abbrev Good : List ℕ → List ℕ → Shown → Type 0
 Good cursor buffer x =
-    ((x .stop ≤ 2) ⊎ ((x .stop ≡ 20) ⊎ (x .stop ≡ 21))) × (2 < x .stop → x ≡ shown (x .stop) cursor buffer 0 0 0)
+    (((100 ≤ x .stop) × (x .stop ≤ 102)) ⊎ ((x .stop ≡ 20) ⊎ (x .stop ≡ 21))) × (x .stop < 100 → x ≡ shown (x .stop) cursor buffer 0 0 0)
 
 refused-good : (fault : Fault) (cursor buffer : List ℕ) → Good cursor buffer (refusedShows (faultNumber fault) cursor buffer)
 refused-good Fault.Record cursor buffer = (inr (inl refl), λ h. refl)
@@ -106,9 +106,9 @@ refused-good Fault.Cursor cursor buffer = (inr (inr refl), λ h. refl)
 
 answered-good : (stop : Stop) (a : Answered ℕ) (cursor buffer : List ℕ) → a .answer .stop ≡ stop
     → ((fault : Fault) → a .answer .stop ≡ Stop.Refused fault → a .buffer ≡ buffer) → Good cursor buffer (shows a cursor)
-answered-good Stop.More a cursor buffer e f = rw e (inl (omega arith), λ h. absurd (omega arith))
-answered-good Stop.Limited a cursor buffer e f = rw e (inl (omega arith), λ h. absurd (omega arith))
-answered-good Stop.Ended a cursor buffer e f = rw e (inl (omega arith), λ h. absurd (omega arith))
+answered-good Stop.More a cursor buffer e f = rw e (inl (omega arith, omega arith), λ h. absurd (omega arith))
+answered-good Stop.Limited a cursor buffer e f = rw e (inl (omega arith, omega arith), λ h. absurd (omega arith))
+answered-good Stop.Ended a cursor buffer e f = rw e (inl (omega arith, omega arith), λ h. absurd (omega arith))
 answered-good (Stop.Refused fault) a cursor buffer e f = rw (e, f fault e) (refused-good fault cursor buffer)
 
 buffer-kept : (r : Rule) (c : Cursor) (buffer : List ℕ) (m : ℕ) (fault : Fault) → runOf r c buffer m .answer .stop ≡ Stop.Refused fault → runOf r c buffer m .buffer ≡ buffer

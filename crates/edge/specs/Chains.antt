@@ -21,8 +21,8 @@ use Rattle.edge.specs.Edge.{said, checkSays, freshSays, Shown, shown, ru
 -- why a run has stopped: its buffer is full, it has made every move allowed, or the listing is at its end and the cause is given
 abbrev pub StoppedFor : Call ℕ → Shown → Type 0
 StoppedFor x s =
-    ((s .stop ≡ 0) × (s .handed ≡ length (x .buffer)) × (s .cause ≡ 0))
-    ⊎ (((s .stop ≡ 1) × (s .moves ≡ x .budget) × (s .cause ≡ 0)) ⊎ ((s .stop ≡ 2) × (0 < s .cause)))
+    ((s .stop ≡ 100) × (s .handed ≡ length (x .buffer)) × (s .cause ≡ 0))
+    ⊎ (((s .stop ≡ 101) × (s .moves ≡ x .budget) × (s .cause ≡ 0)) ⊎ ((s .stop ≡ 102) × (0 < s .cause)))
 
 -- what a run that isn't refused keeps to
 pub record RunKept (x : Call ℕ) (s : Shown) : Type 0 where
@@ -34,13 +34,13 @@ pub record RunKept (x : Call ℕ) (s : Shown) : Type 0 where
 
 abbrev pub RunKeeps : Type 0
 RunKeeps = (rulebytes cursorbytes : List ℕ) (x : Call ℕ)
-    → runSays rulebytes cursorbytes (x .buffer) (x .budget) .stop ≤ 2 → RunKept x (runSays rulebytes cursorbytes (x .buffer) (x .budget))
+    → 100 ≤ runSays rulebytes cursorbytes (x .buffer) (x .budget) .stop → RunKept x (runSays rulebytes cursorbytes (x .buffer) (x .budget))
 
 -- From where a run has ended, every run ends at once for the same cause, and hands out nothing.
 abbrev pub EndedStays : Type 0
-EndedStays = (rulebytes cursorbytes : List ℕ) (x y : Call ℕ) → runSays rulebytes cursorbytes (x .buffer) (x .budget) .stop ≡ 2
+EndedStays = (rulebytes cursorbytes : List ℕ) (x y : Call ℕ) → runSays rulebytes cursorbytes (x .buffer) (x .budget) .stop ≡ 102
     → let s = runSays rulebytes cursorbytes (x .buffer) (x .budget) in
-    runSays rulebytes (s .cursor) (y .buffer) (y .budget) ≡ shown 2 (s .cursor) (y .buffer) 0 0 (s .cause)
+    runSays rulebytes (s .cursor) (y .buffer) (y .budget) ≡ shown 102 (s .cursor) (y .buffer) 0 0 (s .cause)
 
 -- what runs tell C together: all that was handed out, and the cause shown last
 pub record ToldC : Type 0 where
@@ -61,7 +61,7 @@ runsTell rulebytes cursorbytes cause (x ∷ xs) =
 abbrev pub NoneRefused : (rulebytes cursorbytes : List ℕ) → List (Call ℕ) → Type 0
 NoneRefused rulebytes cursorbytes [] = Unit {0}
 NoneRefused rulebytes cursorbytes (x ∷ xs) =
-    let s = runSays rulebytes cursorbytes (x .buffer) (x .budget) in (s .stop ≤ 2) × NoneRefused rulebytes (s .cursor) xs
+    let s = runSays rulebytes cursorbytes (x .buffer) (x .budget) in (100 ≤ s .stop) × NoneRefused rulebytes (s .cursor) xs
 
 -- what is told is the listing of a record, as far as it goes
 pub record ListsC (r : Rule) (t : ToldC) : Type 0 where

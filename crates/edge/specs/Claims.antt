@@ -81,8 +81,9 @@ FreshRefusedLeaves = (rulebytes cursorbytes : List ℕ) → 0 < freshSays ruleby
 
 abbrev pub RunNumbers : Type 0
 RunNumbers = (rulebytes cursorbytes buffer : List ℕ) (m : ℕ)
-    → (runSays rulebytes cursorbytes buffer m .stop ≤ 2) ⊎ ((runSays rulebytes cursorbytes buffer m .stop ≡ 20) ⊎ (runSays rulebytes cursorbytes buffer m .stop ≡ 21))
+    → ((100 ≤ runSays rulebytes cursorbytes buffer m .stop) × (runSays rulebytes cursorbytes buffer m .stop ≤ 102))
+    ⊎ ((runSays rulebytes cursorbytes buffer m .stop ≡ 20) ⊎ (runSays rulebytes cursorbytes buffer m .stop ≡ 21))
 
 abbrev pub RunRefusedLeaves : Type 0
-RunRefusedLeaves = (rulebytes cursorbytes buffer : List ℕ) (m : ℕ) → 2 < runSays rulebytes cursorbytes buffer m .stop
+RunRefusedLeaves = (rulebytes cursorbytes buffer : List ℕ) (m : ℕ) → runSays rulebytes cursorbytes buffer m .stop < 100
     → runSays rulebytes cursorbytes buffer m ≡ shown (runSays rulebytes cursorbytes buffer m .stop) cursorbytes buffer 0 0 0

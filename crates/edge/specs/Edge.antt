@@ -62,11 +62,11 @@ abbrev pub shown : ℕ → List ℕ → List ℕ → (moves handed cause : ℕ) 
 shown stop cursor buffer moves handed cause =
     record { stop = stop; cursor = cursor; buffer = buffer; moves = moves; handed = handed; cause = cause }
 
--- 0 More, 1 Limited, 2 Ended; a refused run's is the number of the refusal
+-- 100 More, 101 Limited, 102 Ended: no number of a refusal. A refused run's is the number of the refusal.
 abbrev pub stopNumber : Stop → ℕ
-stopNumber Stop.More = 0
-stopNumber Stop.Limited = 1
-stopNumber Stop.Ended = 2
+stopNumber Stop.More = 100
+stopNumber Stop.Limited = 101
+stopNumber Stop.Ended = 102
 stopNumber (Stop.Refused fault) = faultNumber fault
 
 abbrev pub isRefused : Stop → Bool

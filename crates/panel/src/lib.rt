@@ -114,9 +114,9 @@ fn stop_number(stop: Stop) -> u8
     ensures { λ r. ⌜ r ≡ stopNumber stop ⌝ }
 {
     match stop {
-        Stop::More => 0,
-        Stop::Limited => 1,
-        Stop::Ended => 2,
+        Stop::More => 100,
+        Stop::Limited => 101,
+        Stop::Ended => 102,
         Stop::Refused(fault) => fault_number(fault),
     }
 }
