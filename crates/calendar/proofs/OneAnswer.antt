@@ -122,3 +122,12 @@ day-of-date-asks-nothing κs a = nothing-asked
 
 pub weekday-of-day-asks-nothing : AsksNothing 0 weekday-of-day-kinds.ps weekday-of-day.requires
 weekday-of-day-asks-nothing κs a = nothing-asked
+
+pub month-table-asks-nothing : AsksNothing 0 month-table-kinds.ps month-table.requires
+month-table-asks-nothing κs a = nothing-asked
+
+pub month-day-table-asks-nothing : AsksNothing 0 month-day-table-kinds.ps month-day-table.requires
+month-day-table-asks-nothing κs a = nothing-asked
+
+pub month-day-from-end-table-asks-nothing : AsksNothing 0 month-day-from-end-table-kinds.ps month-day-from-end-table.requires
+month-day-from-end-table-asks-nothing κs a = nothing-asked

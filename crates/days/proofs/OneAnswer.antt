@@ -3,6 +3,7 @@
 -- Assumes nothing.
 use mathlib.Core.List.{List}
 use Prim.Native.Nat.{ℕ}
+use Rattle.calendar.proofs.AsksNothing.{AsksNothing, nothing-asked}
 use Rattle.calendar.proofs.Determines.{Determines, DeterminesBuffer, one-answer}
 use Rattle.days.proofs.filters.is_filtered.Kinds as is-filtered-kinds
 use Rattle.days.proofs.filters.is_filtered.Reads as is-filtered
@@ -34,3 +35,22 @@ days-by-month-has-one κs a x y e f p q = (one-answer (p .0) (q .0), one-answer 
 
 pub get-dayset-has-one : DeterminesBuffer 3 get-dayset-kinds.ps get-dayset-kinds.r (List ℕ) (λ κs e. e .1 .1 .1 .1 .1 .1 .1 .1 .1 .1 .1 .1 .1 .0 .now) get-dayset.Post
 get-dayset-has-one κs a x y e f p q = (one-answer (p .0) (q .0), one-answer (p .1) (q .1))
+
+-- and none asks anything of its callers
+pub is-filtered-asks-nothing : AsksNothing 2 is-filtered-kinds.ps is-filtered.requires
+is-filtered-asks-nothing κs a = nothing-asked
+
+pub is-plain-asks-nothing : AsksNothing 0 is-plain-kinds.ps is-plain.requires
+is-plain-asks-nothing κs a = nothing-asked
+
+pub plain-days-asks-nothing : AsksNothing 1 plain-days-kinds.ps plain-days.requires
+plain-days-asks-nothing κs a = nothing-asked
+
+pub is-month-alone-asks-nothing : AsksNothing 0 is-month-alone-kinds.ps is-month-alone.requires
+is-month-alone-asks-nothing κs a = nothing-asked
+
+pub days-by-month-asks-nothing : AsksNothing 3 days-by-month-kinds.ps days-by-month.requires
+days-by-month-asks-nothing κs a = nothing-asked
+
+pub get-dayset-asks-nothing : AsksNothing 3 get-dayset-kinds.ps get-dayset.requires
+get-dayset-asks-nothing κs a = nothing-asked

@@ -1,5 +1,6 @@
 -- One answer: of each public function, two answers that its promise allows are one. `Post` is the promise as the source states it.
 -- Assumes nothing.
+use Rattle.calendar.proofs.AsksNothing.{AsksNothing, nothing-asked}
 use Rattle.calendar.proofs.Determines.{Determines, one-answer}
 use Rattle.settling.proofs.rrule_iter.answer.Kinds as answer-kinds
 use Rattle.settling.proofs.rrule_iter.answer.Reads as answer
@@ -26,3 +27,19 @@ held-at-has-one κs a x y e f = one-answer
 
 pub moved-to-has-one : Determines 0 moved-to-kinds.ps moved-to-kinds.r moved-to.Post
 moved-to-has-one κs a x y e f = one-answer
+
+-- and none asks anything of its callers
+pub answer-asks-nothing : AsksNothing 0 answer-kinds.ps answer.requires
+answer-asks-nothing κs a = nothing-asked
+
+pub ended-asks-nothing : AsksNothing 0 ended-kinds.ps ended.requires
+ended-asks-nothing κs a = nothing-asked
+
+pub settle-asks-nothing : AsksNothing 0 settle-kinds.ps settle.requires
+settle-asks-nothing κs a = nothing-asked
+
+pub held-at-asks-nothing : AsksNothing 0 held-at-kinds.ps held-at.requires
+held-at-asks-nothing κs a = nothing-asked
+
+pub moved-to-asks-nothing : AsksNothing 0 moved-to-kinds.ps moved-to.requires
+moved-to-asks-nothing κs a = nothing-asked

@@ -4,6 +4,7 @@
 use Prim.Native.Nat.{ℕ}
 use mathlib.Core.Path.{_≡_, sym, ap, _∙_}
 use mathlib.Core.List.{List}
+use Rattle.calendar.proofs.AsksNothing.{AsksNothing, nothing-asked}
 use Rattle.calendar.proofs.Determines.{Determines, DeterminesBuffer, one-answer}
 use Rattle.machine.specs.Compute as compute
 use Rattle.walks.specs.declared.rrule_iter.Why.{Why}
@@ -39,3 +40,13 @@ pass-days-has-one κs a x y e f p q = one-answer p q
 -- the buffer is the eighth parameter
 pub walk-places-has-one : DeterminesBuffer 4 walk-places-kinds.ps walk-places-kinds.r (List ℕ) (λ κs e. e .1 .1 .1 .1 .1 .1 .1 .0 .now) walk-places.Post
 walk-places-has-one κs a x y e f p q = one-walked x y _ _ (one-answer p q)
+
+-- and none asks anything of its callers
+pub walk-days-asks-nothing : AsksNothing 3 walk-days-kinds.ps walk-days.requires
+walk-days-asks-nothing κs a = nothing-asked
+
+pub pass-days-asks-nothing : AsksNothing 1 pass-days-kinds.ps pass-days.requires
+pass-days-asks-nothing κs a = nothing-asked
+
+pub walk-places-asks-nothing : AsksNothing 4 walk-places-kinds.ps walk-places.requires
+walk-places-asks-nothing κs a = nothing-asked
