@@ -1,0 +1,11 @@
+pub mod Yearly
+pub mod Monthly
+pub mod Weekly
+pub mod Daily
+pub mod Hourly
+pub mod Minutely
+pub mod Secondly
+pub mod Filling
+pub mod Refusals
+pub mod Cursors
+pub mod Faults

@@ -1,0 +1,126 @@
+-- Each list at MINUTELY decides. Made by compare/make-grid.
+-- Assumes nothing.
+use mathlib.Core.Path.{refl}
+use mathlib.Core.List.{[], _∷_, _++_}
+use lib.IntN.{pos, negℤ}
+use Rattle.machine.specs.declared.State.{State}
+use Rattle.machine.specs.declared.Stop.{Stop}
+use Rattle.rule.specs.Charts.{BYMONTH, BYMONTHDAY, BYYEARDAY, BYWEEKNO, BYDAY, BYHOUR, BYMINUTE, BYSECOND, BYSETPOS, with, told, accepted}
+use Rattle.grid.specs.Grid.{holding, Holds}
+
+-- MINUTELY;BYMONTH=2 from 2024-01-31
+by-month :
+    Holds
+    (accepted 5 1706659200 (BYMONTH (pos 2 ∷ []))
+    (with 1 1 ∷ [])
+    (told Stop.More State.Running 1440 1 1 1 1 (1706745600 ∷ []) ∷ []))
+unfolding holding
+by-month = refl
+
+-- MINUTELY;BYMONTHDAY=2 from 2024-01-01
+by-month-day :
+    Holds
+    (accepted 5 1704067200 (BYMONTHDAY (pos 2 ∷ []))
+    (with 1 1 ∷ [])
+    (told Stop.More State.Running 1440 1 1 1 1 (1704153600 ∷ []) ∷ []))
+unfolding holding
+by-month-day = refl
+
+-- MINUTELY;BYMONTHDAY=-1 from 2024-01-30
+by-month-day-from-end :
+    Holds
+    (accepted 5 1706572800 (BYMONTHDAY (negℤ (pos 1) ∷ []))
+    (with 1 1 ∷ [])
+    (told Stop.More State.Running 1440 1 1 1 1 (1706659200 ∷ []) ∷ []))
+unfolding holding
+by-month-day-from-end = refl
+
+-- MINUTELY;BYYEARDAY=2 from 2024-01-01
+by-year-day :
+    Holds
+    (accepted 5 1704067200 (BYYEARDAY (pos 2 ∷ []))
+    (with 1 1 ∷ [])
+    (told Stop.More State.Running 1440 1 1 1 1 (1704153600 ∷ []) ∷ []))
+unfolding holding
+by-year-day = refl
+
+-- MINUTELY;BYYEARDAY=-1 from 2024-12-30
+by-year-day-from-end :
+    Holds
+    (accepted 5 1735516800 (BYYEARDAY (negℤ (pos 1) ∷ []))
+    (with 1 1 ∷ [])
+    (told Stop.More State.Running 1440 1 1 1 1 (1735603200 ∷ []) ∷ []))
+unfolding holding
+by-year-day-from-end = refl
+
+-- MINUTELY;BYWEEKNO=2 from 2024-01-07
+by-week-number :
+    Holds
+    (accepted 5 1704585600 (BYWEEKNO (pos 2 ∷ []))
+    (with 1 1 ∷ [])
+    (told Stop.More State.Running 1440 1 1 1 1 (1704672000 ∷ []) ∷ []))
+unfolding holding
+by-week-number = refl
+
+-- MINUTELY;BYWEEKNO=-1 from 2024-12-22
+by-week-number-from-end :
+    Holds
+    (accepted 5 1734825600 (BYWEEKNO (negℤ (pos 1) ∷ []))
+    (with 1 1 ∷ [])
+    (told Stop.More State.Running 1440 1 1 1 1 (1734912000 ∷ []) ∷ []))
+unfolding holding
+by-week-number-from-end = refl
+
+-- MINUTELY;BYDAY=TU from 2024-01-01
+by-day :
+    Holds
+    (accepted 5 1704067200 (BYDAY (pos 0 ∷ []) (pos 1 ∷ []))
+    (with 1 1 ∷ [])
+    (told Stop.More State.Running 1440 1 1 1 1 (1704153600 ∷ []) ∷ []))
+unfolding holding
+by-day = refl
+
+-- MINUTELY;BYHOUR=5 from 2024-01-01 04:58:00
+by-hour :
+    Holds
+    (accepted 5 1704085080 (BYHOUR (pos 5 ∷ []))
+    (with 1 1 ∷ [])
+    (told Stop.More State.Running 2 1 1 1 1 (1704085200 ∷ []) ∷ []))
+unfolding holding
+by-hour = refl
+
+-- MINUTELY;BYMINUTE=5 from 2024-01-01 00:03:00
+by-minute :
+    Holds
+    (accepted 5 1704067380 (BYMINUTE (pos 5 ∷ []))
+    (with 1 1 ∷ [])
+    (told Stop.More State.Running 2 1 1 1 1 (1704067500 ∷ []) ∷ []))
+unfolding holding
+by-minute = refl
+
+-- MINUTELY;BYSECOND=5 from 2024-01-01
+by-second :
+    Holds
+    (accepted 5 1704067200 (BYSECOND (pos 5 ∷ []))
+    (with 2 0 ∷ [])
+    (told Stop.Limited State.Running 0 1 1 0 1 (1704067205 ∷ 9223372036854775806 ∷ []) ∷ []))
+unfolding holding
+by-second = refl
+
+-- MINUTELY;BYSECOND=5,6,7;BYSETPOS=2 from 2024-01-01
+by-position :
+    Holds
+    (accepted 5 1704067200 (BYSECOND (pos 5 ∷ pos 6 ∷ pos 7 ∷ []) ++ BYSETPOS (pos 2 ∷ []))
+    (with 2 0 ∷ [])
+    (told Stop.Limited State.Running 0 1 1 0 1 (1704067206 ∷ 9223372036854775806 ∷ []) ∷ []))
+unfolding holding
+by-position = refl
+
+-- MINUTELY;BYSECOND=5,6,7;BYSETPOS=-1 from 2024-01-01
+by-position-from-end :
+    Holds
+    (accepted 5 1704067200 (BYSECOND (pos 5 ∷ pos 6 ∷ pos 7 ∷ []) ++ BYSETPOS (negℤ (pos 1) ∷ []))
+    (with 2 0 ∷ [])
+    (told Stop.Limited State.Running 0 1 1 0 1 (1704067207 ∷ 9223372036854775806 ∷ []) ∷ []))
+unfolding holding
+by-position-from-end = refl
