@@ -174,40 +174,58 @@ entries-setpos-numbered : numbers entries-setpos ≡ map (λ (j : Judged). j .nu
 unfolding numbers entries-setpos
 entries-setpos-numbered = refl
 
-unfoldable order : List Judged
-order =
+unfoldable order-month : List Judged
+order-month =
     gives 0 3 1704067200 (BYMONTH (pos 1 ∷ pos 2 ∷ [])) ∷
     gives 6 3 1704067200 (BYMONTH (pos 1 ∷ pos 1 ∷ [])) ∷
     gives 6 3 1704067200 (BYMONTH (pos 2 ∷ pos 1 ∷ [])) ∷
+    []
+
+order-month-numbered : numbers order-month ≡ map (λ (j : Judged). j .number) order-month
+unfolding numbers order-month
+order-month-numbered = refl
+
+unfoldable order-monthday : List Judged
+order-monthday =
     gives 0 3 1704067200 (BYMONTHDAY (pos 1 ∷ pos 2 ∷ [])) ∷
     gives 6 3 1704067200 (BYMONTHDAY (pos 1 ∷ pos 1 ∷ [])) ∷
     gives 6 3 1704067200 (BYMONTHDAY (pos 2 ∷ pos 1 ∷ [])) ∷
+    gives 0 3 1704067200 (BYMONTHDAY (negℤ (pos 1) ∷ pos 1 ∷ [])) ∷
+    gives 6 3 1704067200 (BYMONTHDAY (pos 1 ∷ negℤ (pos 1) ∷ [])) ∷
+    []
+
+order-monthday-numbered : numbers order-monthday ≡ map (λ (j : Judged). j .number) order-monthday
+unfolding numbers order-monthday
+order-monthday-numbered = refl
+
+unfoldable order-yearday : List Judged
+order-yearday =
     gives 0 3 1704067200 (BYYEARDAY (pos 1 ∷ pos 2 ∷ [])) ∷
     gives 6 3 1704067200 (BYYEARDAY (pos 1 ∷ pos 1 ∷ [])) ∷
     gives 6 3 1704067200 (BYYEARDAY (pos 2 ∷ pos 1 ∷ [])) ∷
+    gives 0 3 1704067200 (BYYEARDAY (negℤ (pos 1) ∷ pos 1 ∷ [])) ∷
+    gives 6 3 1704067200 (BYYEARDAY (pos 1 ∷ negℤ (pos 1) ∷ [])) ∷
+    []
+
+order-yearday-numbered : numbers order-yearday ≡ map (λ (j : Judged). j .number) order-yearday
+unfolding numbers order-yearday
+order-yearday-numbered = refl
+
+unfoldable order-weekno : List Judged
+order-weekno =
     gives 0 3 1704067200 (BYWEEKNO (pos 1 ∷ pos 2 ∷ [])) ∷
     gives 6 3 1704067200 (BYWEEKNO (pos 1 ∷ pos 1 ∷ [])) ∷
     gives 6 3 1704067200 (BYWEEKNO (pos 2 ∷ pos 1 ∷ [])) ∷
-    gives 0 3 1704067200 (BYHOUR (pos 1 ∷ pos 2 ∷ [])) ∷
-    gives 6 3 1704067200 (BYHOUR (pos 1 ∷ pos 1 ∷ [])) ∷
-    gives 6 3 1704067200 (BYHOUR (pos 2 ∷ pos 1 ∷ [])) ∷
-    gives 0 3 1704067200 (BYMINUTE (pos 1 ∷ pos 2 ∷ [])) ∷
-    gives 6 3 1704067200 (BYMINUTE (pos 1 ∷ pos 1 ∷ [])) ∷
-    gives 6 3 1704067200 (BYMINUTE (pos 2 ∷ pos 1 ∷ [])) ∷
-    gives 0 3 1704067200 (BYSECOND (pos 1 ∷ pos 2 ∷ [])) ∷
-    gives 6 3 1704067200 (BYSECOND (pos 1 ∷ pos 1 ∷ [])) ∷
-    gives 6 3 1704067200 (BYSECOND (pos 2 ∷ pos 1 ∷ [])) ∷
-    gives 0 3 1704067200 (BYHOUR (pos 0 ∷ []) ++ BYSETPOS (pos 1 ∷ pos 2 ∷ [])) ∷
-    gives 6 3 1704067200 (BYHOUR (pos 0 ∷ []) ++ BYSETPOS (pos 1 ∷ pos 1 ∷ [])) ∷
-    gives 6 3 1704067200 (BYHOUR (pos 0 ∷ []) ++ BYSETPOS (pos 2 ∷ pos 1 ∷ [])) ∷
-    gives 0 3 1704067200 (BYMONTHDAY (negℤ (pos 1) ∷ pos 1 ∷ [])) ∷
-    gives 6 3 1704067200 (BYMONTHDAY (pos 1 ∷ negℤ (pos 1) ∷ [])) ∷
-    gives 0 3 1704067200 (BYYEARDAY (negℤ (pos 1) ∷ pos 1 ∷ [])) ∷
-    gives 6 3 1704067200 (BYYEARDAY (pos 1 ∷ negℤ (pos 1) ∷ [])) ∷
     gives 0 3 1704067200 (BYWEEKNO (negℤ (pos 1) ∷ pos 1 ∷ [])) ∷
     gives 6 3 1704067200 (BYWEEKNO (pos 1 ∷ negℤ (pos 1) ∷ [])) ∷
-    gives 0 3 1704067200 (BYHOUR (pos 0 ∷ []) ++ BYSETPOS (negℤ (pos 1) ∷ pos 1 ∷ [])) ∷
-    gives 6 3 1704067200 (BYHOUR (pos 0 ∷ []) ++ BYSETPOS (pos 1 ∷ negℤ (pos 1) ∷ [])) ∷
+    []
+
+order-weekno-numbered : numbers order-weekno ≡ map (λ (j : Judged). j .number) order-weekno
+unfolding numbers order-weekno
+order-weekno-numbered = refl
+
+unfoldable order-day : List Judged
+order-day =
     gives 0 0 1704067200 (BYDAY (pos 0 ∷ pos 0 ∷ []) (pos 1 ∷ pos 2 ∷ [])) ∷
     gives 6 0 1704067200 (BYDAY (pos 0 ∷ pos 0 ∷ []) (pos 1 ∷ pos 1 ∷ [])) ∷
     gives 6 0 1704067200 (BYDAY (pos 0 ∷ pos 0 ∷ []) (pos 2 ∷ pos 1 ∷ [])) ∷
@@ -222,9 +240,55 @@ order =
     gives 6 0 1704067200 (BYDAY (pos 1 ∷ pos 1 ∷ []) (pos 2 ∷ pos 1 ∷ [])) ∷
     []
 
-order-numbered : numbers order ≡ map (λ (j : Judged). j .number) order
-unfolding numbers order
-order-numbered = refl
+order-day-numbered : numbers order-day ≡ map (λ (j : Judged). j .number) order-day
+unfolding numbers order-day
+order-day-numbered = refl
+
+unfoldable order-hour : List Judged
+order-hour =
+    gives 0 3 1704067200 (BYHOUR (pos 1 ∷ pos 2 ∷ [])) ∷
+    gives 6 3 1704067200 (BYHOUR (pos 1 ∷ pos 1 ∷ [])) ∷
+    gives 6 3 1704067200 (BYHOUR (pos 2 ∷ pos 1 ∷ [])) ∷
+    []
+
+order-hour-numbered : numbers order-hour ≡ map (λ (j : Judged). j .number) order-hour
+unfolding numbers order-hour
+order-hour-numbered = refl
+
+unfoldable order-minute : List Judged
+order-minute =
+    gives 0 3 1704067200 (BYMINUTE (pos 1 ∷ pos 2 ∷ [])) ∷
+    gives 6 3 1704067200 (BYMINUTE (pos 1 ∷ pos 1 ∷ [])) ∷
+    gives 6 3 1704067200 (BYMINUTE (pos 2 ∷ pos 1 ∷ [])) ∷
+    []
+
+order-minute-numbered : numbers order-minute ≡ map (λ (j : Judged). j .number) order-minute
+unfolding numbers order-minute
+order-minute-numbered = refl
+
+unfoldable order-second : List Judged
+order-second =
+    gives 0 3 1704067200 (BYSECOND (pos 1 ∷ pos 2 ∷ [])) ∷
+    gives 6 3 1704067200 (BYSECOND (pos 1 ∷ pos 1 ∷ [])) ∷
+    gives 6 3 1704067200 (BYSECOND (pos 2 ∷ pos 1 ∷ [])) ∷
+    []
+
+order-second-numbered : numbers order-second ≡ map (λ (j : Judged). j .number) order-second
+unfolding numbers order-second
+order-second-numbered = refl
+
+unfoldable order-setpos : List Judged
+order-setpos =
+    gives 0 3 1704067200 (BYHOUR (pos 0 ∷ []) ++ BYSETPOS (pos 1 ∷ pos 2 ∷ [])) ∷
+    gives 6 3 1704067200 (BYHOUR (pos 0 ∷ []) ++ BYSETPOS (pos 1 ∷ pos 1 ∷ [])) ∷
+    gives 6 3 1704067200 (BYHOUR (pos 0 ∷ []) ++ BYSETPOS (pos 2 ∷ pos 1 ∷ [])) ∷
+    gives 0 3 1704067200 (BYHOUR (pos 0 ∷ []) ++ BYSETPOS (negℤ (pos 1) ∷ pos 1 ∷ [])) ∷
+    gives 6 3 1704067200 (BYHOUR (pos 0 ∷ []) ++ BYSETPOS (pos 1 ∷ negℤ (pos 1) ∷ [])) ∷
+    []
+
+order-setpos-numbered : numbers order-setpos ≡ map (λ (j : Judged). j .number) order-setpos
+unfolding numbers order-setpos
+order-setpos-numbered = refl
 
 unfoldable mixed : List Judged
 mixed =
