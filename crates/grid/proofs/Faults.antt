@@ -12,8 +12,8 @@ record-20 : faultOf (given (ruleOf 3 1704067200 [])) State.Running 0 0 0 ≡ 20
 unfolding faultOf given ruleOf
 record-20 = refl
 
--- the same with a cursor that isn't well formed for it
-record-before-cursor : faultOf (given (ruleOf 3 1704067200 [])) State.Running 0 2 0 ≡ 20
+-- the same with a period after 9999, so that the cursor isn't well formed either
+record-before-cursor : faultOf (given (ruleOf 3 1704067200 [])) State.Running 18446744073709551615 0 0 ≡ 20
 unfolding faultOf given ruleOf
 record-before-cursor = refl
 

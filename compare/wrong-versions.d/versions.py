@@ -1,0 +1,356 @@
+"""The wrong versions: each changes a definition in specs/, and names the case of crates/grid that has to refuse it."""
+from collections import namedtuple
+
+# A place in specs/ whose text is there once, and what stands there instead; `uses` are names that the new text needs.
+Edit = namedtuple("Edit", "path old new uses")
+# `apart`: the frequency or the list that the version is wrong at, which its case alone has; None where it is wrong at more.
+Version = namedtuple("Version", "name edit module case apart", defaults=[None])
+
+FREQUENCIES = ("Yearly", "Monthly", "Weekly", "Daily", "Hourly", "Minutely", "Secondly")
+SAME = "Rattle.rule.specs.Filling.{same}"
+NOT = "mathlib.Core.Bool.{not}"
+OR = "mathlib.Core.Bool.{_||_}"
+AND = "mathlib.Core.Bool.{_&&_}"
+IF = "Rattle.calendar.specs.Calendar.{if_then_else_}"
+FREQUENCY = "Rattle.rule.specs.declared.rrule.Frequency.{Frequency}"
+PLUS = "Prim.Native.Nat.{_+_}"
+SUC = "Prim.Native.Nat.{suc}"
+LEB = "lib.Dec.{leb}"
+
+DAYS, TIMES, CANDIDATES, MOVES = "rule/Days", "rule/Times", "rule/Candidates", "rule/Moves"
+PERIODS, RUN, LISTS, REFUSALS, FILLING = "rule/Periods", "rule/Run", "rule/Lists", "rule/Refusals", "rule/Filling"
+CURSORS, GIVEN, FAULTS, CALLS = "machine/Cursors", "machine/Given", "machine/Faults", "machine/Calls"
+
+
+def at(frequency):
+    return f"same (r .freq) Frequency.{frequency}"
+
+
+# A list passed over at a frequency: its test there always passes.
+
+DAY_TESTS = {
+    "month": "monthPasses r date)",
+    "month-day": "monthdayPasses r date)",
+    "year-day": "yeardayPasses r (date .year) d)",
+    "week-number": "weekPasses r (date .year) d)",
+    "day": "weekdayPasses r date d)",
+}
+TIME_TESTS = {
+    "hour": "isIn hours (r .byhour) (pos h)",
+    "minute": "isIn minutes (r .byminute) (pos m)",
+    "second": "isIn seconds (r .bysecond) (pos s)",
+}
+KEPT = "keeps (r .bysetpos) (candidates r k)"
+
+
+def passed_over():
+    for freq in FREQUENCIES:
+        for name, test in DAY_TESTS.items():
+            yield Version(f"{freq}: {name} passed over", Edit(DAYS, test, f"{at(freq)} || {test}", []), freq, f"by-{name}", freq)
+        for name, test in TIME_TESTS.items():
+            yield Version(f"{freq}: {name} passed over", Edit(TIMES, test, f"({at(freq)} || {test})", [SAME]), freq, f"by-{name}", freq)
+        case = "by-position-beyond" if freq == "Secondly" else "by-position"
+        edit = Edit(CANDIDATES, KEPT, f"(if {at(freq)} then candidates r k else {KEPT})", [SAME])
+        yield Version(f"{freq}: positions passed over", edit, freq, case, freq)
+
+
+# One end of a list that has two: at a frequency the other end alone is asked.
+
+ENDS = {
+    "month-day": (
+        "eitherEnd monthdays (r .bymonthday) (date .day) (date .length)",
+        "isIn monthdays (r .bymonthday) (pos (date .day))",
+        "isIn monthdays (r .bymonthday) (negℤ (pos (date .length + 1 - date .day)))",
+    ),
+    "year-day": (
+        "eitherEnd yeardays (r .byyearday) (yearday y d) (yearLength y)",
+        "isIn yeardays (r .byyearday) (pos (yearday y d))",
+        "isIn yeardays (r .byyearday) (negℤ (pos (yearLength y + 1 - yearday y d)))",
+    ),
+    "week-number": (
+        "numberPasses (r .byweekno) (weekNumber (r .wkst) own d) (weeksIn (r .wkst) own)",
+        "isIn weeknos (r .byweekno) (pos (weekNumber (r .wkst) own d))",
+        "isIn weeknos (r .byweekno) (pos (weekNumber (r .wkst) own d) -ℤ pos (weeksIn (r .wkst) own) -ℤ pos 1)",
+    ),
+}
+KEPT_WHOLE = "unfoldable pub kept : Rule → ℕ → List ℕ\nunfolding keeps candidates\nkept r k = " + KEPT
+ONE_END = """unfoldable pub oneEnd : List Bool → ℕ → ℕ → List ℕ → List ℕ
+unfolding isIn
+oneEnd s n j [] = []
+oneEnd s n j (x ∷ xs) = only (isIn positions s ({place})) (x ∷ []) ++ oneEnd s n (j + 1) xs
+
+unfoldable pub kept : Rule → ℕ → List ℕ
+unfolding keeps candidates oneEnd
+kept r k =
+    if {there} && not (isEmpty (r .bysetpos))
+    then oneEnd (r .bysetpos) (length (candidates r k)) 0 (candidates r k)
+    else keeps (r .bysetpos) (candidates r k)"""
+
+
+def one_ended():
+    for freq in FREQUENCIES:
+        for name, (whole, forward, backward) in ENDS.items():
+            for told, rest, case in (("not forward", backward, f"by-{name}"), ("not from the end", forward, f"by-{name}-from-end")):
+                yield Version(f"{freq}: {name} {told}", Edit(DAYS, whole, f"(if {at(freq)} then {rest} else {whole})", []), freq, case, freq)
+        for told, place, case in (("not forward", "negℤ (pos (n - j))", "by-position"), ("not from the end", "pos (j + 1)", "by-position-from-end")):
+            new = ONE_END.format(place=place, there=at(freq))
+            yield Version(f"{freq}: positions {told}", Edit(CANDIDATES, KEPT_WHOLE, new, [SAME, NOT, AND]), freq, case, freq)
+
+
+OF_YEAR = "nthPasses (r .byday) (weekday d) (yearday (date .year) d) (yearLength (date .year))"
+OF_MONTH = "nthPasses (r .byday) (weekday d) (date .day) (date .length)"
+
+
+def nth(place, length, forward):
+    n = f"pos (nthOf ({place}))" if forward else f"negℤ (pos (nthFromEnd ({place}) ({length})))"
+    return f"isPairIn (r .byday) ({n}) (pos (weekday d))"
+
+
+def nths():
+    for forward, case in ((True, "nth-of-{}-from-end"), (False, "nth-of-{}")):
+        told = "not from the end" if forward else "not forward"
+        of_year = nth("yearday (date .year) d", "yearLength (date .year)", forward)
+        of_month = nth("date .day", "date .length", forward)
+        yield Version(f"Yearly: nth of the year {told}", Edit(DAYS, f"then {OF_YEAR}", f"then {of_year}", []), "Yearly", case.format("year"))
+        for freq in ("Yearly", "Monthly"):
+            new = f"else (if {at(freq)} then {of_month} else {OF_MONTH})"
+            yield Version(f"{freq}: nth of the month {told}", Edit(DAYS, f"else {OF_MONTH}", new, []), freq, case.format("month"), freq)
+    yield Version("Yearly: nth of the month for the year", Edit(DAYS, f"then {OF_YEAR}", f"then {OF_MONTH}", []), "Yearly", "nth-of-year")
+    for freq in ("Yearly", "Monthly"):
+        new = f"else (if {at(freq)} then {OF_YEAR} else {OF_MONTH})"
+        yield Version(f"{freq}: nth of the year for the month", Edit(DAYS, f"else {OF_MONTH}", new, []), freq, "nth-of-month", freq)
+
+
+# Moves below DAILY: a tick's test dropped, and the later date.
+
+def moves():
+    hour, minute, second = "hourPasses r (hourOf s)", "minutePasses r (minuteOf s)", "secondPasses r (secondOf s)"
+    ticks = {
+        "Hourly": (hour, {"hour": "true"}),
+        "Minutely": (f"{hour} && {minute}", {"hour": minute, "minute": hour}),
+        "Secondly": ("timePasses r s", {"hour": f"{minute} && {second}", "minute": f"{hour} && {second}", "second": f"{hour} && {minute}"}),
+    }
+    for freq, (whole, without) in ticks.items():
+        begins = f"tickPasses r Frequency.{freq} s = "
+        for name, rest in without.items():
+            yield Version(f"{freq}: a move by any {name}", Edit(TIMES, begins + whole, begins + rest, []), freq, f"by-{name}", freq)
+        edit = Edit(MOVES, "dayPasses r (dayIn r k) then", f"{at(freq)} || dayPasses r (dayIn r k) then", [SAME, OR])
+        yield Version(f"{freq}: a move on the same day", edit, freq, "by-month", freq)
+
+
+# Filling in: left out, done where it isn't due, and done with another value.
+
+FILLS = {  # the test, what it fills, and at which frequencies that is due
+    "month": ("free && same (r .freq) Frequency.Yearly", "bymonth", ("Yearly",)),
+    "month-day": ("free && (same (r .freq) Frequency.Yearly || same (r .freq) Frequency.Monthly)", "bymonthday", ("Yearly", "Monthly")),
+    "weekday": ("free && same (r .freq) Frequency.Weekly", "byday", ("Weekly",)),
+    "hour": ("isBelow (r .freq) Frequency.Hourly", "byhour", FREQUENCIES[:4]),
+    "minute": ("isBelow (r .freq) Frequency.Minutely", "byminute", FREQUENCIES[:5]),
+    "second": ("isBelow (r .freq) Frequency.Secondly", "bysecond", FREQUENCIES[:6]),
+}
+OTHER_VALUES = {  # a value, what is taken instead, and the case that sees it
+    "month": ("months (pos (date .month))", "months (pos (date .day))", "yearly"),
+    "month-day": ("monthdays (pos (date .day))", "monthdays (pos (date .month))", "monthly"),
+    "weekday": ("pos (weekday (dayOf s))", "pos (weekday (dayOf s + 1))", "weekly"),
+    "hour": ("hours (pos (hourOf s))", "hours (pos (minuteOf s))", "daily"),
+    "minute": ("minutes (pos (minuteOf s))", "minutes (pos (secondOf s))", "hourly"),
+    "second": ("seconds (pos (secondOf s))", "seconds (pos (minuteOf s))", "minutely"),
+}
+
+
+def fillings():
+    for name, (test, field, due) in FILLS.items():
+        for freq in FREQUENCIES:
+            for months, there in (("", "isEmpty (r .bymonth)"), ("-in-months", "not (isEmpty (r .bymonth))")):
+                if name == "month" and months:
+                    continue  # a month that is given is not taken, whatever the test
+                where = f"{at(freq)} && {there}"
+                told, new = ("left out", f"({test}) && not ({where})") if freq in due else ("filled in", f"{test} || free && {where}")
+                if freq not in due and name in ("hour", "minute", "second"):
+                    new = f"{test} || {where}"
+                edit = Edit(FILLING, f"{field} = takes ({test})", f"{field} = takes ({new})", [NOT])
+                yield Version(f"{freq}{months}: {name} {told}", edit, "Filling", freq.lower() + months, freq)
+    for name, (old, new, case) in OTHER_VALUES.items():
+        yield Version(f"another {name} filled in", Edit(FILLING, old, new, []), "Filling", case)
+    test = FILLS["month"][0]
+    old = f"bymonth = takes ({test}) (r .bymonth) (slotOf months (pos (date .month)));"
+    new = f"bymonth = if {test} then mark (r .bymonth) (slotOf months (pos (date .month))) else r .bymonth;"
+    yield Version("Yearly: month filled in though given", Edit(FILLING, old, new, []), "Filling", "yearly-in-months")
+    for field, case in (("byweekno", "by-week-number"), ("byyearday", "by-year-day"), ("bymonthday", "by-month-day"), ("byday", "by-day")):
+        old = "noDays r = isEmpty (r .byweekno) && (isEmpty (r .byyearday) && (isEmpty (r .bymonthday) && isEmpty (r .byday)))"
+        for freq in FREQUENCIES[:3]:
+            new = old.replace(f"isEmpty (r .{field})", f"({at(freq)} || isEmpty (r .{field}))")
+            if freq == "Monthly" and field == "bymonthday" or freq == "Weekly" and field == "byday":
+                continue  # that list is the one to fill in, and it isn't empty
+            yield Version(f"{freq}: filled in beside {field}", Edit(FILLING, old, new, []), freq, case, freq)
+
+
+# The numbers, and the tests of the check.
+
+NUMBERS = ("FrequencyAbove", "WeekStartAbove", "StartOut", "UntilOut", "EntryOut", "NotRising", "MixedDays", "NthMisplaced", "PositionsAlone")
+TABLES = ("frequency", "week-start", "start", "until", "entries-month", "order-month", "mixed", "nth", "positions")
+ROWS = ("frequency", "wkst", "start", "until", "entry", "order", "mixed", "nth", "positions")
+RANGES = {
+    "months": ("fromOne", 12, "entries-month"), "monthdays": ("eitherWay", 31, "entries-monthday"), "yeardays": ("eitherWay", 366, "entries-yearday"),
+    "weeknos": ("eitherWay", 53, "entries-weekno"), "nths": ("throughZero", 53, "entries-day"), "weekdays": ("fromZero", 6, "entries-day"),
+    "hours": ("fromZero", 23, "entries-hour"), "minutes": ("fromZero", 59, "entries-minute"), "seconds": ("fromZero", 59, "entries-second"),
+    "positions": ("eitherWay", 366, "entries-setpos"),
+}
+OTHER_KINDS = {"fromOne": "fromZero", "eitherWay": "throughZero", "throughZero": "eitherWay", "fromZero": "fromOne"}
+
+
+def numbers():
+    for i, (a, b) in enumerate(zip(NUMBERS, NUMBERS[1:]), 1):
+        old = f"refusalNumber Refusal.{a} = {i}\nrefusalNumber Refusal.{b} = {i + 1}\n"
+        new = f"refusalNumber Refusal.{a} = {i + 1}\nrefusalNumber Refusal.{b} = {i}\n"
+        yield Version(f"{i} and {i + 1} exchanged", Edit(REFUSALS, old, new, []), "Refusals", TABLES[i - 1])
+        old = f"row Refusal.{a} {ROWS[i - 1]} ∷\n    row Refusal.{b} {ROWS[i]} ∷\n"
+        new = f"row Refusal.{b} {ROWS[i]} ∷\n    row Refusal.{a} {ROWS[i - 1]} ∷\n"
+        if i < 8:  # 8 needs a BYDAY and 9 has none
+            yield Version(f"{i + 1} before {i}", Edit(REFUSALS, old, new, []), "Refusals", "lowest")
+    for i, (name, row, table) in enumerate(zip(NUMBERS, ROWS, TABLES), 1):
+        yield Version(f"{i} never given", Edit(REFUSALS, f"row Refusal.{name} {row} ∷", f"row Refusal.{name} false ∷", []), "Refusals", table)
+    old = "faultNumber Fault.Record = 20\nfaultNumber Fault.Cursor = 21\n"
+    new = "faultNumber Fault.Record = 21\nfaultNumber Fault.Cursor = 20\n"
+    yield Version("20 and 21 exchanged", Edit(FAULTS, old, new, []), "Faults", "record-20")
+
+
+def list_of(table):
+    """The one list that a table's rules have. Those with BYSETPOS have a second."""
+    return None if table.endswith("setpos") else table.partition("-")[2]
+
+
+def ranges():
+    for name, (kind, n, table) in RANGES.items():
+        line, others = f"\n{name} = {kind} {n}\n", {f"to {other}": f"{kind} {other}" for other in (n - 1, n + 1)}
+        others["zero"] = f"{OTHER_KINDS[kind]} {n}"
+        if kind == "eitherWay":
+            for other in (n - 1, n + 1):
+                others[f"from -{other}"] = f"record {{ negatives = {other}; zeroin = false; positives = {n} }}"
+        for told, new in others.items():
+            yield Version(f"{name}: {told}", Edit(LISTS, line, f"\n{name} = {new}\n", []), "Refusals", table, list_of(table))
+    for test, table in (("(ltb 6 freq)", "frequency"), ("(ltb 6 wkst)", "week-start")):
+        for other in (5, 7):
+            new = test.replace("6", str(other))
+            yield Version(f"{table} to {other}", Edit(REFUSALS, test, new, []), "Refusals", table)
+    for test, new, table in (
+        ("(ltb lastInstant start)", "(leb lastInstant start)", "start"), ("(ltb lastInstant start)", "(ltb (suc lastInstant) start)", "start"),
+        ("= ltb lastInstant t", "= leb lastInstant t", "until"), ("= ltb lastInstant t", "= ltb (suc lastInstant) t", "until"),
+    ):
+        yield Version(f"{table} by {new.strip('= ()')}", Edit(REFUSALS, test, new, [LEB, SUC]), "Refusals", table)
+
+
+SINGLE = {  # the ranges of the lists that are one list, and the lists
+    "months": "month", "monthdays": "monthday", "yeardays": "yearday", "weeknos": "weekno",
+    "hours": "hour", "minutes": "minute", "seconds": "second", "positions": "setpos",
+}
+
+
+def tests_of_lists():
+    strays = {name: f"by{field}" for name, field in SINGLE.items()} | {"nths": "bydayn", "weekdays": "bydayw"}
+    for name, field in strays.items():
+        table = RANGES[name][2]
+        yield Version(f"{name} not held to their range", Edit(REFUSALS, f"strays {name} (l .{field})", "false", []), "Refusals", table, list_of(table))
+    for field in SINGLE.values():
+        table = f"order-{field}"
+        yield Version(f"by{field} in any order", Edit(REFUSALS, f"not (rises (l .by{field}))", "false", []), "Refusals", table, list_of(table))
+    yield Version("byday in any order", Edit(REFUSALS, "not (pairsRise (l .bydayn) (l .bydayw))", "false", []), "Refusals", "order-day", "day")
+    old = "risesFrom a (x ∷ xs) = elim (ltZ a x) ["
+    yield Version("an entry twice", Edit(REFUSALS, old, "risesFrom a (x ∷ xs) = elim (not (ltZ x a)) [", []), "Refusals", "order-hour")
+    old = "pairBelow n w m v = ltZ n m || (not (ltZ m n) && ltZ w v)"
+    yield Version("a pair twice", Edit(REFUSALS, old, "pairBelow n w m v = ltZ n m || (not (ltZ m n) && not (ltZ v w))", []), "Refusals", "order-day")
+    yield Version("pairs by weekday", Edit(REFUSALS, old, "pairBelow n w m v = ltZ w v || (not (ltZ v w) && ltZ n m)", []), "Refusals", "order-day")
+    old = "mixedDays l = someEvery (l .bydayn) && someNth (l .bydayn)"
+    yield Version("every day is mixed", Edit(REFUSALS, old, "mixedDays l = someEvery (l .bydayn)", []), "Refusals", "entries-day")
+    yield Version("every nth is mixed", Edit(REFUSALS, old, "mixedDays l = someNth (l .bydayn)", []), "Refusals", "nth")
+    old = "(not (lacks (l .byweekno)) || ltb 1 freq)"
+    for told, new in (
+        ("beside week numbers", "(ltb 1 freq)"), ("at every frequency", "(not (lacks (l .byweekno)))"),
+        ("at WEEKLY", "(not (lacks (l .byweekno)) || ltb 2 freq)"), ("not at MONTHLY", "(not (lacks (l .byweekno)) || ltb 0 freq)"),
+    ):
+        yield Version(f"nth {told}", Edit(REFUSALS, old, new, []), "Refusals", "nth")
+
+
+def positions_alone():
+    whole = """    && (lacks (l .bymonth) && (lacks (l .bymonthday) && (lacks (l .byyearday) && (lacks (l .byweekno)
+    && (lacks (l .bydayn) && (lacks (l .bydayw) && (lacks (l .byhour) && (lacks (l .byminute) && lacks (l .bysecond)))))))))"""
+    for fields in (("bymonth",), ("bymonthday",), ("byyearday",), ("byweekno",), ("bydayn", "bydayw"), ("byhour",), ("byminute",), ("bysecond",)):
+        new = whole
+        for field in fields:
+            new = new.replace(f"lacks (l .{field})", "true")
+        yield Version(f"9 beside {fields[0]}", Edit(REFUSALS, whole, new, []), "Refusals", "positions")
+
+
+# The bounds of a cursor.
+
+IN_RANGE = "inRange r k = ltb (period r k .begins) (rangeEnd * 86400)"
+ENDS_OF = "period r k .ends"
+UNITS = dict(zip(FREQUENCIES, ("year", "month", "week", "day", "hour", "minute", "second")))
+
+
+def cursors_by_frequency():
+    for freq in FREQUENCIES:
+        new = IN_RANGE.replace("= ltb", f"= {at(freq)} || ltb")
+        yield Version(f"{freq}: any period", Edit(PERIODS, IN_RANGE, new, [SAME, OR]), "Cursors", f"{freq.lower()}-behind-the-last", freq)
+        new = IN_RANGE.replace("(period r k .begins)", f"(period r (if {at(freq)} then k + 1 else k) .begins)")
+        yield Version(f"{freq}: a period too few", Edit(PERIODS, IN_RANGE, new, [SAME, IF]), "Cursors", f"{freq.lower()}-last", freq)
+        new = f"(if {at(freq)} then period r (k + 1) .begins else {ENDS_OF})"
+        uses = [SAME, IF, FREQUENCY, PLUS]
+        yield Version(f"{freq}: a period's end is the next one's beginning", Edit(RUN, ENDS_OF, new, uses), "Cursors", f"beyond-{UNITS[freq]}-end", freq)
+        new = f"(if {at(freq)} then period r k .begins else {ENDS_OF})"
+        yield Version(f"{freq}: a period's end is its beginning", Edit(RUN, ENDS_OF, new, uses), "Cursors", f"to-{UNITS[freq]}-end", freq)
+
+
+PLACES = "leb (c .place) (length (g .kept (c .k)))"
+NUMBER = "leb (c .number) (next g c - g .start)"
+NEXT = "getD (g .kept (c .k)) (c .place) (g .ends (c .k))"
+BELOW_COUNT = "below (present b) n = ltb n b"
+WEEK_ZERO = "week d w zero = ofDays d (min (w + 7) rangeEnd)"
+FORMED = "formedIn State.Running g c = poised g c"
+ENDED = "formedIn (State.Ended cause) g c = true\n"
+CAUSES = {"Count": "count", "Interval": "interval", "Until": "until", "NoTick": "no-tick", "Range": "range"}
+BOUNDS = (
+    ("a period that begins after the last second", PERIODS, IN_RANGE, IN_RANGE.replace("ltb", "leb"), [LEB], "daily-behind-the-last"),
+    ("k wraps", PERIODS, "(k * r .interval)", "(k * r .interval % 18446744073709551616)", [], "k-without-wrapping"),
+    ("INTERVAL 0 runs", CURSORS, "leb 1 (g .interval)", "true", [], "running-at-interval-0"),
+    ("a place too many", CURSORS, PLACES, PLACES[:-1] + " + 1)", [], "passed-beyond"),
+    ("a place too many where positions choose", CURSORS, PLACES, PLACES[:-1] + " + 1)", [], "kept-passed-beyond"),
+    ("a place too few", CURSORS, PLACES, PLACES.replace("(c .place)", "(c .place + 1)"), [], "all-passed"),
+    ("a place too few where positions choose", CURSORS, PLACES, PLACES.replace("(c .place)", "(c .place + 1)"), [], "kept-passed"),
+    ("COUNT reached and running", GIVEN, BELOW_COUNT, "below (present b) n = ltb n (suc b)", [SUC], "at-count"),
+    ("COUNT - 1 refused", GIVEN, BELOW_COUNT, "below (present b) n = ltb (suc n) b", [SUC], "below-count"),
+    ("a number too many", CURSORS, NUMBER, "leb (c .number) (next g c - g .start + 1)", [], "beyond-next"),
+    ("a number too few", CURSORS, NUMBER, "leb (c .number + 1) (next g c - g .start)", [], "to-next"),
+    ("the candidate after the next", CURSORS, NEXT, NEXT.replace("(c .place)", "(c .place + 1)"), [], "beyond-next"),
+    ("seconds before the start count", CURSORS, NUMBER, "leb (c .number) ((next g c - g .start) + (g .start - next g c))", [], "one-before-the-start"),
+    ("a candidate before the start refused", CURSORS, NUMBER, f"(leb (g .start) (next g c) && {NUMBER})", [], "none-before-the-start"),
+    ("UNTIL counts", CURSORS, NUMBER, f"({NUMBER} && not (above (g .until) (next g c)))", [NOT, "Rattle.machine.specs.Given.{above}"], "past-until"),
+    ("the last week isn't cut", PERIODS, WEEK_ZERO, "week d w zero = ofDays d (w + 7)", [], "beyond-last-week-end"),
+    ("the last week is cut a day early", PERIODS, WEEK_ZERO, WEEK_ZERO.replace("rangeEnd", "(rangeEnd - 1)"), [], "to-last-week-end"),
+    ("ended at INTERVAL 0 refused", CURSORS, ENDED, "formedIn (State.Ended cause) g c = leb 1 (g .interval)\n", [], "ended-at-interval-0"),
+)
+
+
+def cursor_bounds():
+    for name, path, old, new, uses, case in BOUNDS:
+        yield Version(name, Edit(path, old, new, uses), "Cursors", case)
+    for cause, case in CAUSES.items():
+        new = "".join(f"formedIn (State.Ended Cause.{other}) g c = {'poised g c' if other == cause else 'true'}\n" for other in CAUSES)
+        yield Version(f"ended by {cause} has to be well formed", Edit(CURSORS, ENDED, new, []), "Cursors", f"ended-by-{case}")
+
+
+def faults():
+    old = "| false ↦ refuse Fault.Record c x"
+    new = "| false ↦ elim (wellFormed g c) [ false ↦ refuse Fault.Cursor c x | true ↦ refuse Fault.Record c x ]"
+    yield Version("21 before 20", Edit(CALLS, old, new, []), "Faults", "record-before-cursor")
+    old = "| false ↦ refuse Fault.Cursor c x"
+    yield Version("a bad cursor called a bad record", Edit(CALLS, old, "| false ↦ refuse Fault.Record c x", []), "Faults", "cursor-21")
+    yield Version("every running cursor refused", Edit(CURSORS, FORMED, "formedIn State.Running g c = false", []), "Faults", "neither")
+
+
+def versions():
+    kinds = (
+        passed_over, one_ended, nths, moves, fillings, numbers, ranges, tests_of_lists, positions_alone,
+        cursors_by_frequency, cursor_bounds, faults,
+    )
+    return [version for kind in kinds for version in kind()]
