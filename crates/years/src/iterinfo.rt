@@ -76,20 +76,23 @@ fn asks_more(asked: Asked) -> bool
     asked.monthday | (asked.weekno | asked.nth)
 }
 
-// A year with its table of months, where that is asked for, and nothing else. Told apart, the rest costs one clearing of memory.
-fn month_year(asked: bool, year: Year) -> IterInfo
-    ensures { λ r. ⌜ r ≡ infoBy year (tableWhere asked (monthTable (year .long))) noTable noTable noMask noMask ⌝ }
+// A year for which nothing is made, and one with its table of months alone. Told apart, the rest costs one clearing of memory.
+fn bare_year(year: Year) -> IterInfo
+    ensures { λ r. ⌜ r ≡ infoBy year noTable noTable noTable noMask noMask ⌝ }
 {
-    if !asked {
-        return IterInfo {
-            year,
-            months: [0; 373],
-            monthdays: [0; 373],
-            fromends: [0; 373],
-            weeks: [false; 373],
-            nths: [false; 373],
-        };
+    IterInfo {
+        year,
+        months: [0; 373],
+        monthdays: [0; 373],
+        fromends: [0; 373],
+        weeks: [false; 373],
+        nths: [false; 373],
     }
+}
+
+fn month_year(year: Year) -> IterInfo
+    ensures { λ r. ⌜ r ≡ infoBy year (monthTable (year .long)) noTable noTable noMask noMask ⌝ }
+{
     IterInfo {
         year,
         months: month_table(year.long),
@@ -127,7 +130,10 @@ pub fn rebuild<'a>(
 {
     let year = year_info(number);
     if !asks_more(asked) {
-        return month_year(asked.month, year);
+        if asked.month {
+            return month_year(year);
+        }
+        return bare_year(year);
     }
     let weeks = weeks_where(asked.weekno, number, wkst, byweekno);
     let nths = nths_where(asked.nth, inyear, year, byday);

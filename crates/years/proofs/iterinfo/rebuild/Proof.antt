@@ -2,7 +2,9 @@
 -- Assumes nothing.
 use mathlib.Core.Path.{refl, sym, _∙_}
 use borrow.Author.Tests.{not-true}
-use Rattle.years.proofs.InfoLaws.{info-is, months-alone, masks-alone}
+use Rattle.calendar.specs.Calendar.{monthTable}
+use Rattle.years.specs.Info.{noTable}
+use Rattle.years.proofs.InfoLaws.{table-blank, table-made, info-is, months-alone, masks-alone}
 use borrow.Author.Needs.{needs}
 use Rattle.years.proofs.iterinfo.rebuild.Statement.{statement}
 use Rattle.years.proofs.iterinfo.rebuild.Tie as tie
@@ -18,11 +20,24 @@ month-year-requires c κs = search needs
 
 returns : tie.Need-returns
 returns c =
-    let a = c .before .before .before .before .args in
-    let y = c .before .before .before .year-info in
+    let more = c .before .before .before in
+    let a = more .before .before .args in
+    let y = more .before .year-info in
     c .month-year .ensures
-    ∙ months-alone (a .asked) (a .inyear) (a .wkst) (a .number) (a .byweekno .now) (a .byday .now) (y .result) (y .ensures) _
-    (sym (c .before .before .asks-more .ensures) ∙ not-true _ (c .before .if1 .taken)) refl
+    ∙ months-alone (a .asked) (a .inyear) (a .wkst) (a .number) (a .byweekno .now) (a .byday .now) (y .result) (y .ensures) (monthTable (y .result .long))
+    (sym (more .asks-more .ensures) ∙ not-true _ (c .before .before .if1 .taken)) (table-made (a .asked .month) _ _ (c .before .if2 .taken) refl)
+
+bare-year-requires : tie.Need-bare-year-requires
+bare-year-requires c κs = search needs
+
+returns-2 : tie.Need-returns-2
+returns-2 c =
+    let more = c .before .before .before in
+    let a = more .before .before .args in
+    let y = more .before .year-info in
+    c .bare-year .ensures
+    ∙ months-alone (a .asked) (a .inyear) (a .wkst) (a .number) (a .byweekno .now) (a .byday .now) (y .result) (y .ensures) noTable
+    (sym (more .asks-more .ensures) ∙ not-true _ (c .before .before .if1 .taken)) (table-blank (a .asked .month) _ (c .before .if2 .left))
 
 weeks-where-requires : tie.Need-weeks-where-requires
 weeks-where-requires c κs = search needs
@@ -33,14 +48,14 @@ nths-where-requires c κs = search needs
 masked-year-requires : tie.Need-masked-year-requires
 masked-year-requires c κs = search needs
 
-returns-2 : tie.Need-returns-2
-returns-2 c =
+returns-3 : tie.Need-returns-3
+returns-3 c =
     let masks = c .before .before .before in
     let y = masks .before .before .before .before .year-info in
     let a = masks .before .before .before .before .before .args in
     c .masked-year .ensures
     ∙ masks-alone (a .asked) (a .inyear) (a .wkst) (a .number) (a .byweekno .now) (a .byday .now) (y .result) (y .ensures)
-    (masks .before .weeks-where .result) (masks .nths-where .result) (not-true _ (c .before .if2 .taken))
+    (masks .before .weeks-where .result) (masks .nths-where .result) (not-true _ (c .before .if3 .taken))
     (masks .before .weeks-where .ensures) (masks .nths-where .ensures)
 
 months-where-requires : tie.Need-months-where-requires
@@ -52,8 +67,8 @@ month-days-where-requires c κs = search needs
 from-ends-where-requires : tie.Need-from-ends-where-requires
 from-ends-where-requires c κs = search needs
 
-returns-3 : tie.Need-returns-3
-returns-3 c =
+returns-4 : tie.Need-returns-4
+returns-4 c =
     let masks = c .before .before .before .before .before in
     let y = masks .before .before .before .before .year-info in
     let a = masks .before .before .before .before .before .args in
@@ -71,11 +86,13 @@ rebuild-spec =
     asks-more-requires
     month-year-requires
     returns
+    bare-year-requires
+    returns-2
     weeks-where-requires
     nths-where-requires
     masked-year-requires
-    returns-2
+    returns-3
     months-where-requires
     month-days-where-requires
     from-ends-where-requires
-    returns-3)
+    returns-4)
