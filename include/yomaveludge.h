@@ -196,8 +196,8 @@ uint8_t yomaveludge_fresh(const uint8_t *record, size_t record_length, uint8_t *
  * Cost, as measured on one machine (docs/PANEL.md has the table; examples/costs.c measures yours): a call takes up to 0.01 ms,
  * and up to 0.6 ms in the period of the start; an instant up to 0.0001 ms; a move up to 0.01 ms, but up to 0.3 ms with SECONDLY
  * and a rare time. So a budget of 30 kept every rule's call within 10 ms, and one of 3,000 within 1 s; without SECONDLY, 1,000
- * and 100,000. The largest budget can take a quarter of an hour in one call (SECONDLY;BYSECOND=0;BYSETPOS=2; ten minutes with
- * SECONDLY;BYMONTH=2;BYMONTHDAY=30;BYHOUR=23).
+ * and 100,000. By what a move took, the largest budget would take a quarter of an hour in one call with
+ * SECONDLY;BYSECOND=0;BYSETPOS=2, and ten minutes with SECONDLY;BYMONTH=2;BYMONTHDAY=30;BYHOUR=23.
  */
 uint8_t yomaveludge_run(
     const uint8_t *record, size_t record_length, uint8_t *cursor, size_t cursor_length,
