@@ -43,6 +43,10 @@ unfolding eight four two
 length-eight n = refl
 
 -- a number is written as its two halves
+pub two-halves : (l x y : List ℕ) (i n : ℕ) → x ≡ set l i (n % 256) → y ≡ set x (i + 1) (n / 256) → y ≡ sets l i (two n)
+unfolding two
+two-halves l x y i n e f = rw (f, e, add-one)
+
 pub four-halves : (l x y : List ℕ) (i n : ℕ) → x ≡ sets l i (two (n % 65536)) → y ≡ sets x (i + 2) (two (n / 65536)) → y ≡ sets l i (four n)
 unfolding four
 four-halves l x y i n e f = f ∙ ap (λ (a : List ℕ). sets a (i + 2) (two (n / 65536))) e ∙ sets-behind l i (i + 2) (two (n % 65536)) (two (n / 65536)) (ap (λ (k : ℕ). i + k) (length-two (n % 65536)))

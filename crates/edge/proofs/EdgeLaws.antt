@@ -64,10 +64,10 @@ module _ (freq interval : ℕ) (count count′ : Count) (until until′ : Until)
   check-refused refusal n e f =
       rw (← ec, ← eu, ← ev) (ap (λ (k : ℕ). said k bytes) f ∙ ap (λ (a : Verdict). saidOf a (v .rule) bytes) (sym e))
 
-  pub check-length : v .verdict ≡ Verdict.Accepted → (length bytes ≡ 2564 → ⊥)
-      → said 20 bytes ≡ checkSays (raw freq interval count′ until′ wkst start lists) bytes
+  pub check-length : (x : List ℕ) → v .verdict ≡ Verdict.Accepted → (length bytes ≡ 2564 → ⊥) → x ≡ bytes
+      → said 20 x ≡ checkSays (raw freq interval count′ until′ wkst start lists) bytes
   unfolding checkSays
-  check-length e h = rw (← ec, ← eu, ← ev, e, ne-eqb (length bytes) 2564 h)
+  check-length x e h f = rw (← ec, ← eu, ← ev, e, ne-eqb (length bytes) 2564 h) (ap (λ (y : List ℕ). said 20 y) f)
 
   pub check-accepted : (x : List ℕ) → v .verdict ≡ Verdict.Accepted → length bytes ≡ 2564 → x ≡ encodeRecord (v .rule)
       → said 0 x ≡ checkSays (raw freq interval count′ until′ wkst start lists) bytes
@@ -85,9 +85,9 @@ module _ (rulebytes cursorbytes : List ℕ) where
     unfolding freshSays
     fresh-bad-record e = rw (held, e)
 
-    pub fresh-length : yielded r ≡ true → (length cursorbytes ≡ 22 → ⊥) → said 21 cursorbytes ≡ freshSays rulebytes cursorbytes
+    pub fresh-length : (x : List ℕ) → yielded r ≡ true → (length cursorbytes ≡ 22 → ⊥) → x ≡ cursorbytes → said 21 x ≡ freshSays rulebytes cursorbytes
     unfolding freshSays
-    fresh-length e h = rw (held, e, ne-eqb (length cursorbytes) 22 h)
+    fresh-length x e h f = rw (held, e, ne-eqb (length cursorbytes) 22 h) (ap (λ (y : List ℕ). said 21 y) f)
 
     pub fresh-made : (c : Cursor) (x : List ℕ) → yielded r ≡ true → length cursorbytes ≡ 22 → c ≡ freshOf r → x ≡ encodeCursor c
         → said 0 x ≡ freshSays rulebytes cursorbytes

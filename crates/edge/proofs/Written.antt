@@ -60,9 +60,6 @@ goes-on bytes (suc n) i h =
     drop-cons bytes i 0 (omega arith)
     ∙ ap (λ (l : List ℕ). getD bytes i 0 ∷ l) (goes-on bytes n (suc i) (omega arith) ∙ ap (λ (k : ℕ). each bytes n (suc i) ++ drop k bytes) z)
 
-four-bound : {a b : ℕ} → a < 65536 → b < 65536 → a + 65536 * b < 4294967296
-four-bound g h = omega arith
-
 module _ (bytes : List ℕ) (are : AreBytes bytes) where
   two-small : (i : ℕ) → twoAt bytes i < 65536
   unfolding twoAt
@@ -70,7 +67,7 @@ module _ (bytes : List ℕ) (are : AreBytes bytes) where
 
   four-small : (i : ℕ) → fourAt bytes i < 4294967296
   unfolding fourAt
-  four-small i = four-bound (two-small i) (two-small (i + 2))
+  four-small i = omega (arith, two-small i, two-small (i + 2))
 
   pub two-at : (i : ℕ) → two (twoAt bytes i) ≡ getD bytes i 0 ∷ getD bytes (i + 1) 0 ∷ []
   unfolding twoAt

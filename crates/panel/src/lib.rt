@@ -1,26 +1,19 @@
 // The edge to C: the check, the fresh cursor and the run, on numbers and slices. A record and a cursor cross as bytes, which are read by
 // functions that are total: whatever bytes come, the answer is one of those that include/yomaveludge.h lists.
-mod cursor;
-mod flags;
-mod numbers;
-mod record;
-
-use crate::cursor::CURSOR_LENGTH;
-use crate::cursor::cursor_in;
-use crate::cursor::is_cursor_bytes;
-use crate::cursor::put_cursor;
-use crate::cursor::state_number;
-use crate::record::RECORD_LENGTH;
-use crate::record::count_from;
-use crate::record::is_record_bytes;
-use crate::record::put_record;
-use crate::record::record_in;
-use crate::record::until_from;
 use basics::faults::fault_number;
 use basics::rrule::fresh;
 use basics::rrule::refusal_number;
+use cursor_layout::cursor::cursor_in;
+use cursor_layout::cursor::is_cursor_bytes;
+use cursor_layout::cursor::put_cursor;
+use cursor_layout::cursor::state_number;
 use listing::rrule_iter::run;
 use machine::Stop;
+use record_layout::record::count_from;
+use record_layout::record::is_record_bytes;
+use record_layout::record::put_record;
+use record_layout::record::record_in;
+use record_layout::record::until_from;
 use records::is_record;
 use rule::rrule::Rule;
 use rule::rrule::Verdict;
@@ -83,12 +76,12 @@ pub extern "C" fn yomaveludge_check(
         Verdict::Refused(refusal) => return refusal_number(refusal),
         Verdict::Accepted => {}
     }
-    if rulebytes.len() != RECORD_LENGTH {
-        return BAD_RECORD;
-    }
     let rule = checked.rule;
-    put_record(rule, rulebytes);
-    0
+    if put_record(rule, rulebytes) {
+        0
+    } else {
+        BAD_RECORD
+    }
 }
 
 // The fresh cursor of a record.
@@ -103,11 +96,11 @@ pub extern "C" fn yomaveludge_fresh(rulebytes: &[u8], cursorbytes: &mut [u8]) ->
     if !is_record(rule) {
         return BAD_RECORD;
     }
-    if cursorbytes.len() != CURSOR_LENGTH {
-        return BAD_CURSOR;
+    if put_cursor(fresh(rule), cursorbytes) {
+        0
+    } else {
+        BAD_CURSOR
     }
-    put_cursor(fresh(rule), cursorbytes);
-    0
 }
 
 fn stop_number(stop: Stop) -> u8

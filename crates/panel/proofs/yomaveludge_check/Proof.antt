@@ -2,6 +2,7 @@
 -- Assumes nothing.
 use Rattle.rule.specs.Raw.{rawLists}
 use Rattle.edge.proofs.EdgeLaws.{check-refused, check-length, check-accepted}
+use Rattle.cursor_layout.proofs.LengthLaws.{put-done, put-refused}
 use borrow.Author.Needs.{needs}
 use Rattle.panel.proofs.yomaveludge_check.Statement.{statement}
 use Rattle.panel.proofs.yomaveludge_check.Tie as tie
@@ -34,32 +35,40 @@ returns c =
 enum-told : tie.Need-enum-told
 enum-told c = search needs
 
-returns-2 : tie.Need-returns-2
-returns-2 c =
-    let a = c .before .before .before .before .before .before .before .args in
-    let k = c .before .before .before in
-    check-length (a .freq) (a .interval) _ _ _ _ (a .wkst) (a .start)
-    (rawLists (a .bymonth .now) (a .bymonthday .now) (a .byyearday .now) (a .byweekno .now) (a .bydayn .now) (a .bydayw .now)
-    (a .byhour .now) (a .byminute .now) (a .bysecond .now) (a .bysetpos .now))
-    (k .check .result) (a .rulebytes .now) (k .before .before .count-from .ensures) (k .before .until-from .ensures) (k .check .ensures)
-    (c .before .enum-told .given .1) (c .if1 .taken)
-
 put-record-requires : tie.Need-put-record-requires
 put-record-requires c κs = search needs
 
 same-length : tie.Need-same-length
 same-length c = search needs
 
-returns-3 : tie.Need-returns-3
-returns-3 c =
-    let a = c .before .before .before .before .before .before .before .before .before .before .before .before .args in
-    let k = c .before .before .before .before .before .before .before .before in
+returns-2 : tie.Need-returns-2
+returns-2 c =
+    let put = c .before .before .before in
+    let told = put .before .before .before in
+    let k = told .before .before in
+    let a = k .before .before .before .before .args in
+    let done = put-done 2564 _ (a .rulebytes .now) _ _ (put .put-record .ensures) (c .if1 .taken) in
     check-accepted (a .freq) (a .interval) _ _ _ _ (a .wkst) (a .start)
     (rawLists (a .bymonth .now) (a .bymonthday .now) (a .byyearday .now) (a .byweekno .now) (a .bydayn .now) (a .bydayw .now)
     (a .byhour .now) (a .byminute .now) (a .bysecond .now) (a .bysetpos .now))
     (k .check .result) (a .rulebytes .now) (k .before .before .count-from .ensures) (k .before .until-from .ensures) (k .check .ensures)
-    _ (c .before .before .before .before .before .before .enum-told .given .1) (c .before .before .before .before .before .if1 .left)
-    (c .before .before .put-record .ensures)
+    _ (told .enum-told .given .1) (done .0) (done .1)
+
+same-length-2 : tie.Need-same-length-2
+same-length-2 c = search needs
+
+returns-3 : tie.Need-returns-3
+returns-3 c =
+    let put = c .before .before .before in
+    let told = put .before .before .before in
+    let k = told .before .before in
+    let a = k .before .before .before .before .args in
+    let done = put-refused 2564 _ (a .rulebytes .now) _ _ (put .put-record .ensures) (c .if1 .left) in
+    check-length (a .freq) (a .interval) _ _ _ _ (a .wkst) (a .start)
+    (rawLists (a .bymonth .now) (a .bymonthday .now) (a .byyearday .now) (a .byweekno .now) (a .bydayn .now) (a .bydayw .now)
+    (a .byhour .now) (a .byminute .now) (a .bysecond .now) (a .bysetpos .now))
+    (k .check .result) (a .rulebytes .now) (k .before .before .count-from .ensures) (k .before .until-from .ensures) (k .check .ensures)
+    _ (told .enum-told .given .1) (done .0) (done .1)
 
 pub yomaveludge-check-spec : {M : Type 1} → statement M
 yomaveludge-check-spec =
@@ -72,7 +81,8 @@ yomaveludge-check-spec =
     refusal-number-requires
     returns
     enum-told
-    returns-2
     put-record-requires
     same-length
+    returns-2
+    same-length-2
     returns-3)

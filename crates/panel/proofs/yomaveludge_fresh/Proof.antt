@@ -2,7 +2,9 @@
 -- Assumes nothing.
 use mathlib.Core.Path.{sym, _∙_}
 use borrow.Author.Tests.{not-true, not-false}
-use Rattle.edge.proofs.EdgeLaws.{record-size, record-held, fresh-no-record, fresh-bad-record, fresh-length, fresh-made}
+use Rattle.edge.proofs.EdgeLaws.{fresh-no-record, fresh-bad-record, fresh-length, fresh-made}
+use Rattle.cursor_layout.proofs.LengthLaws.{put-done, put-refused}
+use Rattle.record_layout.proofs.RecordIs.{record-is}
 use borrow.Author.Needs.{needs}
 use Rattle.panel.proofs.yomaveludge_fresh.Statement.{statement}
 use Rattle.panel.proofs.yomaveludge_fresh.Tie as tie
@@ -11,23 +13,22 @@ is-record-bytes-requires : tie.Need-is-record-bytes-requires
 is-record-bytes-requires c κs = search needs
 
 returns : tie.Need-returns
-returns c = fresh-no-record (c .before .before .before .before .args .rulebytes .now) (c .before .before .before .before .args .cursorbytes .now) (sym (c .before .is-record-bytes .ensures) ∙ not-true _ (c .if1 .taken))
+returns c =
+    let a = c .before .before .before .before .args in
+    fresh-no-record (a .rulebytes .now) (a .cursorbytes .now) (sym (c .before .is-record-bytes .ensures) ∙ not-true _ (c .if1 .taken))
 
 record-in-requires : tie.Need-record-in-requires
-record-in-requires c κs = record-size _ (sym (c .before .is-record-bytes .ensures) ∙ not-false _ (c .if1 .left))
+record-in-requires c κs = search needs
 
 is-record-requires : tie.Need-is-record-requires
 is-record-requires c κs = search needs
 
 returns-2 : tie.Need-returns-2
 returns-2 c =
-    let a = c .before .before .before .before .before .before .before .args in
-    fresh-bad-record (a .rulebytes .now) (a .cursorbytes .now) _ (record-held _ _ (sym (c .before .before .before .before .is-record-bytes .ensures) ∙ not-false _ (c .before .before .before .if1 .left)) (c .before .before .record-in .ensures)) (sym (c .before .is-record .ensures) ∙ not-true _ (c .if2 .taken))
-
-returns-3 : tie.Need-returns-3
-returns-3 c =
-    let a = c .before .before .before .before .before .before .before .before .args in
-    fresh-length (a .rulebytes .now) (a .cursorbytes .now) _ (record-held _ _ (sym (c .before .before .before .before .before .is-record-bytes .ensures) ∙ not-false _ (c .before .before .before .before .if1 .left)) (c .before .before .before .record-in .ensures)) (sym (c .before .before .is-record .ensures) ∙ not-false _ (c .before .if2 .left)) (c .if3 .taken)
+    let read = c .before .before in
+    let a = read .before .before .before .before .before .args in
+    let held = record-is _ _ (sym (read .before .before .is-record-bytes .ensures) ∙ not-false _ (read .before .if1 .left)) (read .record-in .ensures) in
+    fresh-bad-record (a .rulebytes .now) (a .cursorbytes .now) _ held (sym (c .before .is-record .ensures) ∙ not-true _ (c .if2 .taken))
 
 fresh-requires : tie.Need-fresh-requires
 fresh-requires c κs = search needs
@@ -38,10 +39,31 @@ put-cursor-requires c κs = search needs
 same-length : tie.Need-same-length
 same-length c = search needs
 
+returns-3 : tie.Need-returns-3
+returns-3 c =
+    let put = c .before .before .before in
+    let made = put .before .before in
+    let judged = made .before in
+    let read = judged .before .before in
+    let a = read .before .before .before .before .before .args in
+    let held = record-is _ _ (sym (read .before .before .is-record-bytes .ensures) ∙ not-false _ (read .before .if1 .left)) (read .record-in .ensures) in
+    let good = sym (judged .before .is-record .ensures) ∙ not-false _ (judged .if2 .left) in
+    let done = put-done 22 _ (a .cursorbytes .now) _ _ (put .put-cursor .ensures) (c .if3 .taken) in
+    fresh-made (a .rulebytes .now) (a .cursorbytes .now) _ held _ _ good (done .0) (made .fresh .ensures) (done .1)
+
+same-length-2 : tie.Need-same-length-2
+same-length-2 c = search needs
+
 returns-4 : tie.Need-returns-4
 returns-4 c =
-    let a = c .before .before .before .before .before .before .before .before .before .before .before .before .before .args in
-    fresh-made (a .rulebytes .now) (a .cursorbytes .now) _ (record-held _ _ (sym (c .before .before .before .before .before .before .before .before .before .before .is-record-bytes .ensures) ∙ not-false _ (c .before .before .before .before .before .before .before .before .before .if1 .left)) (c .before .before .before .before .before .before .before .before .record-in .ensures)) _ _ (sym (c .before .before .before .before .before .before .before .is-record .ensures) ∙ not-false _ (c .before .before .before .before .before .before .if2 .left)) (c .before .before .before .before .before .if3 .left) (c .before .before .before .before .fresh .ensures) (c .before .before .put-cursor .ensures)
+    let put = c .before .before .before in
+    let judged = put .before .before .before in
+    let read = judged .before .before in
+    let a = read .before .before .before .before .before .args in
+    let held = record-is _ _ (sym (read .before .before .is-record-bytes .ensures) ∙ not-false _ (read .before .if1 .left)) (read .record-in .ensures) in
+    let good = sym (judged .before .is-record .ensures) ∙ not-false _ (judged .if2 .left) in
+    let done = put-refused 22 _ (a .cursorbytes .now) _ _ (put .put-cursor .ensures) (c .if3 .left) in
+    fresh-length (a .rulebytes .now) (a .cursorbytes .now) _ held _ good (done .0) (done .1)
 
 pub yomaveludge-fresh-spec : {M : Type 1} → statement M
 yomaveludge-fresh-spec =
@@ -52,8 +74,9 @@ yomaveludge-fresh-spec =
     record-in-requires
     is-record-requires
     returns-2
-    returns-3
     fresh-requires
     put-cursor-requires
     same-length
+    returns-3
+    same-length-2
     returns-4)

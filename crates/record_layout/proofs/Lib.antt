@@ -1,0 +1,2 @@
+mod OneAnswer
+pub mod RecordIs

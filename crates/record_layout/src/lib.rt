@@ -1,0 +1,3 @@
+// Records as bytes, to and from. The definitions are crate edge.
+mod flags;
+pub mod record;
