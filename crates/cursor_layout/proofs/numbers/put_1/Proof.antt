@@ -1,6 +1,6 @@
 -- `cursor_layout::numbers::put_1` meets its contract.
 -- Assumes nothing.
-use mathlib.Core.Path.{sym}
+use mathlib.Core.Path.{refl, sym}
 use Rattle.cursor_layout.proofs.LengthLaws.{set-behind}
 use borrow.Author.Needs.{needs}
 use Rattle.cursor_layout.proofs.numbers.put_1.Statement.{statement}
@@ -13,7 +13,7 @@ same-length : tie.Need-same-length
 same-length c = search needs
 
 returns : tie.Need-returns
-returns c = search needs
+returns c = refl
 
 returns-2 : tie.Need-returns-2
 returns-2 c = sym (set-behind _ _ _ (c .if1 .left))

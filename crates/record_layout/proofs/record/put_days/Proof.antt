@@ -37,7 +37,8 @@ returns c =
     let weeks-size = weeks .before .before .put-flags-arg11 .given .0 in
     let weekdays-size = weekdays .before .before .put-flags-arg14 .given .0 in (
       days-put r _ _ _ _ _ _ months-size monthdays-size yeardays-size weeks-size
-          (months .put-flags .ensures) (monthdays .put-flags2 .ensures) (yeardays .put-flags3 .ensures) (weeks .put-flags4 .ensures) (weekdays .put-flags5 .ensures),
+          (months .put-flags .ensures) (monthdays .put-flags2 .ensures) (yeardays .put-flags3 .ensures)
+          (weeks .put-flags4 .ensures) (weekdays .put-flags5 .ensures),
       length-days r months-size monthdays-size yeardays-size weeks-size weekdays-size,
     )
 
