@@ -2,9 +2,11 @@
 -- Assumes nothing.
 use Prim.Native.Nat.{ℕ, _+_, _*_, _/_, _%_, _<_}
 use mathlib.Core.Path.{_≡_, refl, sym, ap, _∙_}
-use native.Mathlib.Nat.{add-mul, div-add-mod', mod-lt, mod-eq-of-lt, div-eq-of-lt, mul-add-div-right, mul-add-mod-self-right}
+use native.Mathlib.Nat.{add-mul, div-add-mod', mod-lt, div-eq-of-lt, mul-add-div-right, mul-add-mod-self-right}
 use native.Mathlib.Omega.{arith}
 use Rattle.periods.specs.declared.counter_date.Counter.{Counter}
+use Rattle.ticks.specs.Ticks.{tickOn}
+use Rattle.ticks.proofs.Days.{tick-is}
 use Rattle.moves.specs.Increments.{ahead}
 
 abbrev counter : ℕ → ℕ → ℕ → Counter
@@ -13,15 +15,12 @@ counter k number tick = record { k = k; number = number; tick = tick }
 same-counter : {k number tick j day place : ℕ} → k ≡ j → number ≡ day → tick ≡ place → counter k number tick ≡ counter j day place
 same-counter a b c = rw (a, b, c)
 
--- a number of ticks is cut into days and the tick in one way
+-- a number of ticks is cut into days and the tick in one way (ticks, Days)
 pub day-is : (perday number tick sum : ℕ) → tick < perday → number * perday + tick ≡ sum → number ≡ sum / perday
 day-is perday number tick sum h e =
     let a : (number * perday + tick) / perday ≡ number + tick / perday = mul-add-div-right (omega arith) number tick in
     let b : tick / perday ≡ 0 = div-eq-of-lt h in
     (let d : number ≡ (number * perday + tick) / perday = omega arith in d) ∙ ap (λ (x : ℕ). x / perday) e
-
-pub tick-is : (perday number tick sum : ℕ) → tick < perday → number * perday + tick ≡ sum → tick ≡ sum % perday
-tick-is perday number tick sum h e = sym (mul-add-mod-self-right number perday tick ∙ mod-eq-of-lt h) ∙ ap (λ (x : ℕ). x % perday) e
 
 -- the counters of a rule whose days have so many periods, each a step apart
 module _ (perday step : ℕ) where
@@ -41,7 +40,20 @@ module _ (perday step : ℕ) where
   unfolding ahead
   ahead-sum c n = div-add-mod' (sumAt c n) perday
 
+  -- its tick is found with no day
+  pub tick-ahead : (c : Counter) (n : ℕ) → ahead perday step c n .tick ≡ tickOn perday step (c .tick) n
+  unfolding ahead
+  tick-ahead c n =
+      let s : sumAt c n ≡ c .number * perday + (c .tick + n * step) = omega arith in
+      ap (λ (x : ℕ). x % perday) s ∙ mul-add-mod-self-right (c .number) perday (c .tick + n * step)
+
   module _ (some : 0 < perday) where
+    day-ahead : (c : Counter) (n : ℕ) → ahead perday step c n .number ≡ c .number + (c .tick + n * step) / perday
+    unfolding ahead
+    day-ahead c n =
+        let s : sumAt c n ≡ c .number * perday + (c .tick + n * step) = omega arith in
+        ap (λ (x : ℕ). x / perday) s ∙ mul-add-div-right some (c .number) (c .tick + n * step)
+
     pub ahead-tick : (c : Counter) (n : ℕ) → ahead perday step c n .tick < perday
     unfolding ahead
     ahead-tick c n = mod-lt (sumAt c n) some
@@ -59,24 +71,11 @@ module _ (perday step : ℕ) where
         let e : (m + n) * step ≡ m * step + n * step = add-mul m n step in
         ahead-is c (ahead perday step d n) (m + n) (omega arith) (ahead-tick d n) (omega arith)
 
-    -- the tick of the next period is a hop further, whatever whole days the step has
-    pub tick-on : (c : Counter) (n days hop : ℕ) → step ≡ days * perday + hop
-        → (ahead perday step c n .tick + hop) % perday ≡ ahead perday step c (n + 1) .tick
-    unfolding ahead
-    tick-on c n days hop e =
-        let d : Counter = ahead perday step c n in
-        let s : (d .number + days) * perday + (d .tick + hop) ≡ sumAt d 1 = omega (arith, add-mul (d .number) days perday) in
-        sym (mul-add-mod-self-right (d .number + days) perday (d .tick + hop))
-        ∙ ap (λ (x : ℕ). x % perday) s
-        ∙ ap (λ (x : Counter). x .tick) (ahead-ahead c n 1)
-
     -- the days that n periods lead on, counted at once
     pub ahead-at : (c d : Counter) (n : ℕ) → d .k ≡ c .k + n → d .number ≡ c .number + (c .tick + n * step) / perday
-        → d .tick ≡ ahead perday step c n .tick → d ≡ ahead perday step c n
+        → d .tick ≡ tickOn perday step (c .tick) n → d ≡ ahead perday step c n
     unfolding ahead
-    ahead-at c d n a b e =
-        let s : c .number * perday + (c .tick + n * step) ≡ sumAt c n = omega arith in
-        same-counter a (b ∙ sym (mul-add-div-right some (c .number) (c .tick + n * step)) ∙ ap (λ (x : ℕ). x / perday) s) e
+    ahead-at c d n a b e = same-counter a (b ∙ sym (day-ahead c n)) (e ∙ sym (tick-ahead c n))
 
   pub ahead-k : (c : Counter) (n : ℕ) → ahead perday step c n .k ≡ c .k + n
   unfolding ahead

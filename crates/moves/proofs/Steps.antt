@@ -15,20 +15,13 @@ use Rattle.rule.specs.Moves.{ticks}
 use Rattle.periods.specs.declared.counter_date.Counter.{Counter}
 use Rattle.periods.specs.declared.counter_date.Reached.{Reached}
 use Rattle.periods.specs.Counters.{stepOf, limitOf}
-use Rattle.moves.specs.Increments.{ahead, skipped, firstTick, landing, below, arrive, fits, stands, incremented}
+use Rattle.ticks.specs.Ticks.{firstTick}
+use Rattle.ticks.proofs.Days.{ticks-fit}
+use Rattle.moves.specs.Increments.{ahead, skipped, landing, below, arrive, fits, stands, incremented}
 use Rattle.moves.proofs.Ahead.{day-is, ahead-is, ahead-tick, ahead-none, ahead-k}
-use Rattle.moves.proofs.Searches.{arrived, search-later}
+use Rattle.moves.proofs.Searches.{arrived, arrives-later}
 
 -- ---- bounds
-pub ticks-fit : (freq : Frequency) → ticks freq ≤ 86400
-ticks-fit Frequency.Yearly = omega arith
-ticks-fit Frequency.Monthly = omega arith
-ticks-fit Frequency.Weekly = omega arith
-ticks-fit Frequency.Daily = omega arith
-ticks-fit Frequency.Hourly = omega arith
-ticks-fit Frequency.Minutely = omega arith
-ticks-fit Frequency.Secondly = omega arith
-
 pub limit-fits : (freq : Frequency) → limitOf freq ≤ 3652059
 unfolding limitOf
 limit-fits Frequency.Yearly = omega arith
@@ -40,14 +33,8 @@ limit-fits Frequency.Minutely = omega arith
 limit-fits Frequency.Secondly = omega arith
 
 -- as far as a cycle of the day leads, nothing wraps
-pub step-fits : (freq : Frequency) (perday days hop : ℕ) → perday ≡ ticks freq → days ≤ 65535 → hop < perday → days * perday + hop ≤ 5662310400
-step-fits freq perday days hop e d h =
-    let most : perday ≤ 86400 = rw e (ticks-fit freq) in
-    let far : days * perday ≤ 65535 * 86400 = mul-le-mul d most in
-    omega arith
-
-pub steps-fit : (tick step n : ℕ) → tick ≤ 86400 → step ≤ 5662310400 → n ≤ 86400 → tick + n * step ≤ 86400 + 86400 * 5662310400
-steps-fit tick step n t s h = let far : n * step ≤ 86400 * 5662310400 = mul-le-mul h s in omega arith
+pub steps-fit : (tick step n : ℕ) → tick ≤ 86400 → step ≤ 65535 → n ≤ 86400 → tick + n * step ≤ 86400 + 86400 * 65535
+steps-fit tick step n t s h = let far : n * step ≤ 86400 * 65535 = mul-le-mul h s in omega arith
 
 -- ---- the periods passed over unseen
 pub skipped-none : (step tick : ℕ) (b : Bool) → skipped 1 step tick b ≡ 0
@@ -151,7 +138,7 @@ module _ (freq : Frequency) (interval : ℕ) (c : Counter) where
     lands-first i f = rw f
 
     lands-tick : (i : ℕ) → isBelow Frequency.Daily freq ≡ true
-        → landing freq step c clock i ≡ firstTick freq step c clock (ticks freq) i
+        → landing freq step c clock i ≡ firstTick freq step (c .tick) clock (ticks freq) i
     unfolding landing
     lands-tick i f = rw f
 
@@ -176,16 +163,16 @@ module _ (freq : Frequency) (interval : ℕ) (c : Counter) where
         go true e = by-period by limit (sym (fits-is limit 1 l t) ∙ e) f t s l
         go false e = stays (sym (fits-is limit 1 l t) ∙ e)
 
-    -- below it: so many days and ticks are a step
-    pub by-tick : (perday days hop : ℕ) (from : Counter) → stands freq interval c ≡ true
+    -- below it
+    pub by-tick : (perday : ℕ) (from : Counter) → stands freq interval c ≡ true
         → isBelow Frequency.Daily freq ≡ true → perday ≡ ticks freq → step ≡ interval
-        → days * perday + hop ≡ interval → from ≡ ahead perday interval c (skipped perday interval (c .tick) passes)
-        → arrive freq (days * perday + hop) from (firstTick freq (days * perday + hop) from clock perday 1) ≡ moved
-    by-tick perday days hop from e f t s d g =
+        → from ≡ ahead perday interval c (skipped perday interval (c .tick) passes)
+        → arrive freq interval from (firstTick freq interval (from .tick) clock perday 1) ≡ moved
+    by-tick perday from e f t s g =
         let h : c .tick < ticks freq = does-stand e .tick in
-        rw (d, g, t)
-        (search-later freq interval c (omega arith) clock (skipped (ticks freq) interval (c .tick) passes) (ticks freq) 1
-        ∙ ap (λ (x : ℕ). arrive freq x c (firstTick freq x c clock (ticks freq) (skipped (ticks freq) x (c .tick) passes + 1))) (sym s)
+        rw (g, t)
+        (arrives-later freq interval c (omega arith) clock (skipped (ticks freq) interval (c .tick) passes) (ticks freq) 1
+        ∙ ap (λ (x : ℕ). arrive freq x c (firstTick freq x (c .tick) clock (ticks freq) (skipped (ticks freq) x (c .tick) passes + 1))) (sym s)
         ∙ ap (arrive freq step c) (sym (lands-tick _ f))
         ∙ moves e)
 
@@ -194,13 +181,13 @@ module _ (freq : Frequency) (interval : ℕ) (c : Counter) (e : stands freq inte
   pub tick-fits : (perday : ℕ) → perday ≡ ticks freq → (c .k ≤ 1099511627776) × (c .tick < perday) × (perday ≤ 86400) × (1 ≤ interval)
   tick-fits perday t = let s : Stands freq interval c = does-stand freq interval c e in (omega arith, omega arith, omega (arith, ticks-fit freq), omega arith)
 
-  pub search-fits : (perday days hop : ℕ) (passes : Bool) (d : Counter) → perday ≡ ticks freq → limitOf freq ≡ 3652059 → days ≤ 65535 → hop < perday
+  pub search-fits : (perday : ℕ) (passes : Bool) (d : Counter) → perday ≡ ticks freq → limitOf freq ≡ 3652059 → interval ≤ 65535
       → d ≡ ahead perday interval c (skipped perday interval (c .tick) passes)
-      → ((perday ≡ ticks freq) × (limitOf freq ≡ 3652059) × (days ≤ 65535) × (hop < perday))
+      → ((perday ≡ ticks freq) × (limitOf freq ≡ 3652059) × (interval ≤ 65535))
       × ((d .k ≤ 1099511714176) × (d .number ≤ 3652059) × (d .tick < perday))
-  search-fits perday days hop passes d t l a b g =
+  search-fits perday passes d t l a g =
       let s : Stands freq interval c = does-stand freq interval c e in
-      ((t, l, a, b), off-fits perday interval c (omega arith) passes d g (omega arith) (omega arith) (omega (arith, ticks-fit freq)))
+      ((t, l, a), off-fits perday interval c (omega arith) passes d g (omega arith) (omega arith) (omega (arith, ticks-fit freq)))
 
 -- and what one down to DAILY asks of it
 pub period-fits : (limit interval : ℕ) (c : Counter) (by : ℕ) → fits limit 1 interval c ≡ true → limit ≤ 3652059 → by ≤ 458745

@@ -21,22 +21,15 @@ use Rattle.rule.specs.Moves.{dayIn, tickIn, fine, ticks, nextDay, firstFrom, ta
 use Rattle.periods.specs.declared.counter_date.Counter.{Counter}
 use Rattle.periods.specs.Counters.{numberOf, stepOf, counterAt, limitOf}
 use Rattle.periods.proofs.Counted.{in-range-is, place-is-tick, hourly-hour, minutely-hour, minutely-minute, secondly-hour, secondly-minute, secondly-second}
-use Rattle.moves.specs.Increments.{tickIsIn, ahead, skipped, firstTick, landing, below, arrive, reachedBy}
+use Rattle.ticks.specs.Ticks.{tickIsIn, firstTick}
+use Rattle.ticks.proofs.Days.{some-ticks, ticks-fit}
+use Rattle.ticks.proofs.Searches.{passesAt, later, shifted}
+use Rattle.moves.specs.Increments.{ahead, skipped, landing, below, arrive, reachedBy}
 use Rattle.moves.specs.Claims.{Flags, CounterStands, IncrementIsMove, ReachedTo, ReachedNoTick, ReachedRange}
-use Rattle.moves.proofs.Ahead.{ahead-is}
-use Rattle.moves.proofs.Searches.{passesAt, later, shifted}
-use Rattle.moves.proofs.Steps.{ticks-fit, limit-fits, skipped-none, is-standing, moves}
+use Rattle.moves.proofs.Ahead.{ahead-is, tick-ahead}
+use Rattle.moves.proofs.Steps.{limit-fits, skipped-none, is-standing, moves}
 
--- ---- a day has some ticks, and a step leads on
-some-ticks : (f : Frequency) → 0 < ticks f
-some-ticks Frequency.Yearly = omega arith
-some-ticks Frequency.Monthly = omega arith
-some-ticks Frequency.Weekly = omega arith
-some-ticks Frequency.Daily = omega arith
-some-ticks Frequency.Hourly = omega arith
-some-ticks Frequency.Minutely = omega arith
-some-ticks Frequency.Secondly = omega arith
-
+-- ---- a tick has some seconds, and a step leads on
 some-seconds : (f : Frequency) → 0 < 86400 / ticks f
 some-seconds Frequency.Yearly = omega arith
 some-seconds Frequency.Monthly = omega arith
@@ -127,10 +120,11 @@ module _ (r : Rule) where
         let d = are .seconds-are (counterAt r k .tick % 60) (omega arith) ∙ ap (secondPasses r) (secondly-second r k e) in
         rw (a, b, d)
 
-    tick-is : (k n : ℕ) → tickIn r (k + n) ≡ passesAt (r .freq) step (counterAt r k) clock n
+    tick-is : (k n : ℕ) → tickIn r (k + n) ≡ passesAt (r .freq) step (counterAt r k .tick) clock n
     unfolding tickIn
     tick-is k n =
-        sym (tick-by (r .freq) (k + n) refl) ∙ ap (λ (x : Counter). tickIsIn (r .freq) clock (x .tick)) (counter-ahead k n)
+        sym (tick-by (r .freq) (k + n) refl)
+        ∙ ap (tickIsIn (r .freq) clock) (ap (λ (x : Counter). x .tick) (counter-ahead k n) ∙ tick-ahead (ticks (r .freq)) step (counterAt r k) n)
 
   -- ---- where the search begins
   tick-of : (k : ℕ) → fine r ≡ true → period r k .begins % 86400 / (86400 / ticks (r .freq)) ≡ counterAt r k .tick
@@ -169,7 +163,7 @@ module _ (r : Rule) where
     unfolding landing target firstTick
     target-is true e =
         rw e
-        (sym (shifted (tickIn r) (passesAt (r .freq) step (counterAt r k) clock) k (tick-is clock are k) (ticks (r .freq)) from)
+        (sym (shifted (tickIn r) (passesAt (r .freq) step (counterAt r k .tick) clock) k (tick-is clock are k) (ticks (r .freq)) from)
         ∙ ap (firstFrom (tickIn r) (ticks (r .freq))) (sym (begins-at k (dayPasses r (dayIn r k)) e)))
     target-is false e = rw e (ap (λ (x : ℕ). To (k + (x + 1))) (coarse-skip k _ e))
 

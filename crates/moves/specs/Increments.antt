@@ -3,27 +3,17 @@
 use Prim.Native.Nat.{ℕ, _+_, _-_, _*_, _/_, _%_}
 use mathlib.Core.Bool.{Bool, true, false, _&&_}
 use mathlib.Core.List.{List}
-use lib.ListN.{getD}
 use lib.Dec.{leb, ltb}
 use Rattle.calendar.specs.Calendar.{if_then_else_}
 use Rattle.machine.specs.Given.{Move, Move.To, Move.NoTick, Move.Range}
 use Rattle.rule.specs.declared.rrule.Frequency.{Frequency}
 use Rattle.rule.specs.declared.rrule.Rule.{Rule}
 use Rattle.rule.specs.Filling.{isBelow}
-use Rattle.rule.specs.Moves.{ticks, firstFrom}
+use Rattle.rule.specs.Moves.{ticks}
 use Rattle.periods.specs.declared.counter_date.Counter.{Counter}
 use Rattle.periods.specs.declared.counter_date.Reached.{Reached}
 use Rattle.periods.specs.Counters.{stepOf, counterAt, limitOf}
-
--- Whether a tick of the day passes: its hour, and its minute and second as far as the frequency fixes them, have their flags.
-unfoldable pub tickIsIn : Frequency → List Bool → ℕ → Bool
-tickIsIn Frequency.Yearly clock t = true
-tickIsIn Frequency.Monthly clock t = true
-tickIsIn Frequency.Weekly clock t = true
-tickIsIn Frequency.Daily clock t = true
-tickIsIn Frequency.Hourly clock t = getD clock t false
-tickIsIn Frequency.Minutely clock t = getD clock (t / 60) false && getD clock (24 + t % 60) false
-tickIsIn Frequency.Secondly clock t = getD clock (t / 3600) false && getD clock (24 + t / 60 % 60) false && getD clock (84 + t % 60) false
+use Rattle.ticks.specs.Ticks.{firstTick}
 
 -- the counter n periods on, each a step further, where a day has so many periods
 unfoldable pub ahead : ℕ → ℕ → Counter → ℕ → Counter
@@ -36,17 +26,12 @@ unfoldable pub skipped : ℕ → ℕ → ℕ → Bool → ℕ
 skipped perday step tick true = 0
 skipped perday step tick false = (perday - 1 - tick) / step
 
--- the first of n periods, from number i after the counter's on, whose tick passes
-unfoldable pub firstTick : Frequency → ℕ → Counter → List Bool → ℕ → ℕ → Move
-unfolding tickIsIn ahead firstFrom
-firstTick freq step c clock n i = firstFrom (λ j. tickIsIn freq clock (ahead (ticks freq) step c j .tick)) n i
-
 -- The period that a move goes to, if no earlier than number i. Down to DAILY it is that; below it the first whose tick passes: the ticks
 -- repeat with the day, so as many as a day has periods are tried.
 unfoldable pub landing : Frequency → ℕ → Counter → List Bool → ℕ → Move
 unfolding firstTick
 landing freq step c clock i =
-    if isBelow Frequency.Daily freq then firstTick freq step c clock (ticks freq) i else To i
+    if isBelow Frequency.Daily freq then firstTick freq step (c .tick) clock (ticks freq) i else To i
 
 -- a counter, where its number is below the first whose period begins after 9999
 unfoldable pub below : ℕ → Counter → Reached

@@ -2,6 +2,8 @@
 use periods::counter_date::Counter;
 use periods::counter_date::Reached;
 use rule::rrule::Frequency;
+use ticks::counter_date::Found;
+use ticks::counter_date::find_tick;
 ghost use mathlib.Core.Path.{_≡_};
 ghost use mathlib.Core.Bool.{false};
 ghost use Prim.Native.Nat.{_+_, _-_, _*_, _/_, _%_, _<_, _≤_};
@@ -9,7 +11,8 @@ ghost use Rattle.rule.specs.Moves.{ticks};
 ghost use Rattle.periods.specs.Counters.{limitOf};
 ghost use Rattle.calendar.specs.Calendar.{if_then_else_};
 ghost use Rattle.periods.specs.declared.counter_date.Reached.{Reached};
-ghost use Rattle.moves.specs.Increments.{tickIsIn, ahead, skipped, firstTick, below, arrive, fits, incremented};
+ghost use Rattle.ticks.specs.Ticks.{tickOn, firstTick};
+ghost use Rattle.moves.specs.Increments.{ahead, skipped, below, arrive, fits, incremented};
 
 // The day after 9999.
 const RANGE_END: u64 = 3652059;
@@ -32,38 +35,6 @@ fn in_range(counter: Counter, limit: u64) -> Reached
         Reached::To(counter)
     } else {
         Reached::Range
-    }
-}
-
-// Whether a tick passes, as far as the frequency fixes hour, minute and second. Of a second the minute is asked first: with BYMINUTE alone
-// that settles most ticks in one look.
-fn tick_passes(freq: Frequency, tick: u64, clock: &[bool; 144]) -> bool
-    requires { ⌜ tick < ticks freq ⌝ }
-    ensures { λ r. ⌜ r ≡ tickIsIn freq (now (clock .entry)) tick ⌝ }
-{
-    match freq {
-        Frequency::Yearly => true,
-        Frequency::Monthly => true,
-        Frequency::Weekly => true,
-        Frequency::Daily => true,
-        Frequency::Hourly => clock[tick as usize],
-        Frequency::Minutely => {
-            if !clock[(tick / 60) as usize] {
-                return false;
-            }
-            clock[24 + (tick % 60) as usize]
-        }
-        Frequency::Secondly => {
-            let second = tick as u32;
-            let minutes = second / 60;
-            if !clock[24 + (minutes % 60) as usize] {
-                return false;
-            }
-            if !clock[(minutes / 60) as usize] {
-                return false;
-            }
-            clock[84 + (second % 60) as usize]
-        }
     }
 }
 
@@ -117,64 +88,34 @@ fn set_off(counter: Counter, passes: bool, perday: u64, step: u64) -> Counter
     }
 }
 
-// The tick of the next period: a hop further, with one carry at midnight.
-fn tick_after(tick: u64, perday: u64, hop: u64) -> u64
-    requires { ⌜ (tick < perday) × (hop < perday) × (perday ≤ 86400) ⌝ }
-    ensures { λ r. ⌜ r ≡ (tick + hop) % perday ⌝ }
-{
-    let sum = tick + hop;
-    if sum < perday {
-        return sum;
-    }
-    sum - perday
-}
-
-// How many midnights n periods lead past.
-fn midnights(tick: u64, perday: u64, step: u64, n: u64) -> u64
-    requires { ⌜ (tick < perday) × (perday ≤ 86400) × (step ≤ 5662310400) × (n ≤ 86400) ⌝ }
-    ensures { λ r. ⌜ r ≡ (tick + n * step) / perday ⌝ }
-{
-    (tick + n * step) / perday
-}
-
-// The counter n periods on, whose tick is known. The search counts no days on its way: they are counted here at once.
+// The counter n periods on, whose tick is known: the days that they lead past are counted at once.
 fn counter_ahead(from: Counter, perday: u64, step: u64, n: u64, tick: u64) -> Counter
     requires { ⌜ (from .k ≤ 1099511714176) × (from .number ≤ 3652059) × (from .tick < perday) ⌝ }
-    requires { ⌜ (perday ≤ 86400) × (step ≤ 5662310400) × (n ≤ 86400) × (tick ≡ ahead perday step from n .tick) ⌝ }
+    requires { ⌜ (perday ≤ 86400) × (step ≤ 65535) × (n ≤ 86400) × (tick ≡ tickOn perday step (from .tick) n) ⌝ }
     ensures { λ r. ⌜ r ≡ ahead perday step from n ⌝ }
 {
     Counter {
         k: from.k + n,
-        number: from.number + midnights(from.tick, perday, step, n),
+        number: from.number + (from.tick + n * step) / perday,
         tick,
     }
 }
 
-// Below DAILY: the first later period whose tick passes, of one cycle of the day.
-fn next_tick(
-    freq: Frequency,
-    perday: u64,
-    days: u64,
-    hop: u64,
-    from: Counter,
-    clock: &[bool; 144],
-) -> Reached
-    requires { ⌜ (perday ≡ ticks freq) × (limitOf freq ≡ 3652059) × (days ≤ 65535) × (hop < perday) ⌝ }
+// Below DAILY: the first later period whose tick passes.
+fn next_tick(freq: Frequency, perday: u64, step: u64, from: Counter, clock: &[bool; 144]) -> Reached
+    requires { ⌜ (perday ≡ ticks freq) × (limitOf freq ≡ 3652059) × (step ≤ 65535) ⌝ }
     requires { ⌜ (from .k ≤ 1099511714176) × (from .number ≤ 3652059) × (from .tick < perday) ⌝ }
-    ensures { λ r. ⌜ r ≡ arrive freq (days * perday + hop) from
-        (firstTick freq (days * perday + hop) from (now (clock .entry)) perday 1) ⌝ }
+    ensures { λ r. ⌜ r ≡ arrive freq step from (firstTick freq step (from .tick) (now (clock .entry)) perday 1) ⌝ }
 {
-    let step = days * perday + hop;
-    let mut tick = from.tick;
-    let mut n: u64 = 0;
-    while n < perday {
-        n += 1;
-        tick = tick_after(tick, perday, hop);
-        if tick_passes(freq, tick, clock) {
-            return in_range(counter_ahead(from, perday, step, n, tick), RANGE_END);
+    match find_tick(freq, step, from.tick, clock) {
+        Found::At(hit) => {
+            in_range(
+                counter_ahead(from, perday, step, hit.periods, hit.tick),
+                RANGE_END,
+            )
         }
+        Found::Never => Reached::NoTick,
     }
-    Reached::NoTick
 }
 
 // HOURLY: a day has 24 periods.
@@ -186,14 +127,7 @@ fn increment_hourly(interval: u64, counter: Counter, passes: bool, clock: &[bool
         return Reached::Range;
     }
     let from = set_off(counter, passes, 24, interval);
-    next_tick(
-        Frequency::Hourly,
-        24,
-        interval / 24,
-        interval % 24,
-        from,
-        clock,
-    )
+    next_tick(Frequency::Hourly, 24, interval, from, clock)
 }
 
 // MINUTELY: a day has 1,440 periods.
@@ -205,17 +139,10 @@ fn increment_minutely(interval: u64, counter: Counter, passes: bool, clock: &[bo
         return Reached::Range;
     }
     let from = set_off(counter, passes, 1440, interval);
-    next_tick(
-        Frequency::Minutely,
-        1440,
-        interval / 1440,
-        interval % 1440,
-        from,
-        clock,
-    )
+    next_tick(Frequency::Minutely, 1440, interval, from, clock)
 }
 
-// SECONDLY: a day has 86,400 periods, more than INTERVAL can be.
+// SECONDLY: a day has 86,400 periods.
 fn increment_secondly(interval: u64, counter: Counter, passes: bool, clock: &[bool; 144]) -> Reached
     requires { ⌜ interval ≤ 65535 ⌝ }
     ensures { λ r. ⌜ r ≡ incremented Frequency.Secondly interval counter passes (now (clock .entry)) ⌝ }
@@ -224,7 +151,7 @@ fn increment_secondly(interval: u64, counter: Counter, passes: bool, clock: &[bo
         return Reached::Range;
     }
     let from = set_off(counter, passes, 86400, interval);
-    next_tick(Frequency::Secondly, 86400, 0, interval, from, clock)
+    next_tick(Frequency::Secondly, 86400, interval, from, clock)
 }
 
 // The move from a period, whose day passes or not; the clock has the flags of the hours, minutes and seconds that pass, in a row.

@@ -20,7 +20,9 @@ returns : tie.Need-returns
 returns c = rw (sym (c .before .can-move .ensures) ∙ not-true _ (c .if1 .taken))
 
 next-period-requires : tie.Need-next-period-requires
-next-period-requires c κs = period-fits (c .before .before .args .limit) (c .before .before .args .interval) (c .before .before .args .counter) _ (fitted c) (c .before .before .pre .1) (c .before .before .pre .0)
+next-period-requires c κs =
+    let a = c .before .before in
+    period-fits (a .args .limit) (a .args .interval) (a .args .counter) _ (fitted c) (a .pre .1) (a .pre .0)
 
 returns-2 : tie.Need-returns-2
 returns-2 c = rw (fitted (c .before)) (c .next-period .ensures)

@@ -12,28 +12,32 @@ use Rattle.moves.proofs.Steps.{fits-is, stays, by-tick, tick-fits, sear
 use Rattle.moves.proofs.counter_date.increment_secondly.Statement.{statement}
 use Rattle.moves.proofs.counter_date.increment_secondly.Tie as tie
 
--- past the guard the counter stands
-stood : (c : tie.Else1) → let a = c .before .before .args in stands Frequency.Secondly (a .interval) (a .counter) ≡ true
+-- the guard tells whether the counter stands, and past it the counter does
+tested : (c : tie.After-can-move) → let a = c .before .args in stands Frequency.Secondly (a .interval) (a .counter) ≡ c .can-move .result
 unfolding limitOf
-stood c = sym (fits-is Frequency.Secondly (c .before .before .args .interval) (c .before .before .args .counter) 3652059 86400 refl refl) ∙ sym (c .before .can-move .ensures) ∙ not-false _ (c .if1 .left)
+tested c =
+    let a = c .before .args in
+    sym (fits-is Frequency.Secondly (a .interval) (a .counter) 3652059 86400 refl refl) ∙ sym (c .can-move .ensures)
+
+stood : (c : tie.Else1) → let a = c .before .before .args in stands Frequency.Secondly (a .interval) (a .counter) ≡ true
+stood c = tested (c .before) ∙ not-false _ (c .if1 .left)
 
 can-move-requires : tie.Need-can-move-requires
 can-move-requires c κs = search needs
 
 returns : tie.Need-returns
-unfolding limitOf
-returns c = stays _ _ _ _ _ (sym (fits-is Frequency.Secondly (c .before .before .args .interval) (c .before .before .args .counter) 3652059 86400 refl refl) ∙ sym (c .before .can-move .ensures) ∙ not-true _ (c .if1 .taken))
+returns c = stays _ _ _ _ _ (tested (c .before) ∙ not-true _ (c .if1 .taken))
 
 set-off-requires : tie.Need-set-off-requires
 set-off-requires c κs = tick-fits _ _ _ (stood c) 86400 refl
 
 next-tick-requires : tie.Need-next-tick-requires
 unfolding limitOf
-next-tick-requires c κs = search-fits _ _ _ (stood (c .before)) 86400 _ _ _ _ refl refl (omega arith) (omega arith) (c .set-off .ensures)
+next-tick-requires c κs = search-fits _ _ _ (stood (c .before)) 86400 _ _ refl refl (omega arith) (c .set-off .ensures)
 
 returns-2 : tie.Need-returns-2
 unfolding stepOf
-returns-2 c = c .next-tick .ensures ∙ by-tick _ _ _ _ _ 86400 0 _ _ (stood (c .before .before)) refl refl refl (omega arith) (c .before .set-off .ensures)
+returns-2 c = c .next-tick .ensures ∙ by-tick _ _ _ _ _ 86400 _ (stood (c .before .before)) refl refl refl (c .before .set-off .ensures)
 
 pub increment-secondly-spec : {M : Type 1} → statement M
 increment-secondly-spec =

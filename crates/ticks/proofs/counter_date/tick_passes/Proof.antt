@@ -1,12 +1,12 @@
--- `moves::counter_date::tick_passes` meets its contract.
+-- `ticks::counter_date::tick_passes` meets its contract.
 -- Assumes nothing.
 use Prim.Native.Nat.{_<_}
 use native.Mathlib.Omega.{arith}
 use borrow.Author.Needs.{needs}
-use Rattle.moves.specs.Increments.{tickIsIn}
-use Rattle.moves.proofs.Searches.{minute-no, minute-yes, second-no, second-not-yet, second-yes}
-use Rattle.moves.proofs.counter_date.tick_passes.Statement.{statement}
-use Rattle.moves.proofs.counter_date.tick_passes.Tie as tie
+use Rattle.ticks.specs.Ticks.{tickIsIn}
+use Rattle.ticks.proofs.Tests.{minute-no, minute-yes, second-no, second-not-yet, second-yes}
+use Rattle.ticks.proofs.counter_date.tick_passes.Statement.{statement}
+use Rattle.ticks.proofs.counter_date.tick_passes.Tie as tie
 
 enum-told : tie.Need-enum-told
 enum-told c = search needs
@@ -64,7 +64,8 @@ cast-if3 c = search needs
 
 element-copy-out-if3 : tie.Need-element-copy-out-if3
 element-copy-out-if3 c =
-    let h : c .before .before .before .before .args .tick < 86400 = rw (c .before .before .enum-told7 .given .1) at (c .before .before .before .before .pre) in omega arith
+    let a = c .before .before .before .before in
+    let h : a .args .tick < 86400 = rw (c .before .before .enum-told7 .given .1) at (a .pre) in omega arith
 
 returns-3 : tie.Need-returns-3
 returns-3 c = second-not-yet _ _ _ (c .before .before .before .before .enum-told7 .given .1) (c .before .before .if2 .left) (c .if3 .taken)

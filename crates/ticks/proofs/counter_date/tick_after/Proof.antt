@@ -1,10 +1,10 @@
--- `moves::counter_date::tick_after` meets its contract.
+-- `ticks::counter_date::tick_after` meets its contract.
 -- Assumes nothing.
 use native.Mathlib.Omega.{arith}
 use borrow.Author.Needs.{needs}
-use Rattle.moves.proofs.Ahead.{tick-is}
-use Rattle.moves.proofs.counter_date.tick_after.Statement.{statement}
-use Rattle.moves.proofs.counter_date.tick_after.Tie as tie
+use Rattle.ticks.proofs.Days.{tick-is}
+use Rattle.ticks.proofs.counter_date.tick_after.Statement.{statement}
+use Rattle.ticks.proofs.counter_date.tick_after.Tie as tie
 
 add-sum : tie.Need-add-sum
 add-sum c = search needs

@@ -1,0 +1,4 @@
+pub mod Days
+pub mod OneAnswer
+pub mod Searches
+pub mod Tests

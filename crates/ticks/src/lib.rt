@@ -1,0 +1,2 @@
+// Ticks: the search for the next tick of the day that passes.
+pub mod counter_date;
