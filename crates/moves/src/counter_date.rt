@@ -88,6 +88,14 @@ fn set_off(counter: Counter, passes: bool, perday: u64, step: u64) -> Counter
     }
 }
 
+// How many midnights n periods lead past.
+fn midnights(tick: u64, perday: u64, step: u64, n: u64) -> u64
+    requires { ⌜ (tick < perday) × (perday ≤ 86400) × (step ≤ 65535) × (n ≤ 86400) ⌝ }
+    ensures { λ r. ⌜ r ≡ (tick + n * step) / perday ⌝ }
+{
+    (tick + n * step) / perday
+}
+
 // The counter n periods on, whose tick is known: the days that they lead past are counted at once.
 fn counter_ahead(from: Counter, perday: u64, step: u64, n: u64, tick: u64) -> Counter
     requires { ⌜ (from .k ≤ 1099511714176) × (from .number ≤ 3652059) × (from .tick < perday) ⌝ }
@@ -96,7 +104,7 @@ fn counter_ahead(from: Counter, perday: u64, step: u64, n: u64, tick: u64) -> Co
 {
     Counter {
         k: from.k + n,
-        number: from.number + (from.tick + n * step) / perday,
+        number: from.number + midnights(from.tick, perday, step, n),
         tick,
     }
 }

@@ -12,17 +12,11 @@ use Rattle.moves.proofs.counter_date.counter_ahead.Tie as tie
 add-t6 : tie.Need-add-t6
 add-t6 c = search needs
 
-mul-t7 : tie.Need-mul-t7
-mul-t7 c = let a = c .before .args in omega (arith, steps-fit (a .from .tick) (a .step) (a .n) (omega arith) (omega arith) (omega arith))
+midnights-requires : tie.Need-midnights-requires
+midnights-requires c κs = search needs
 
 add-t8 : tie.Need-add-t8
-add-t8 c = let a = c .before .before .args in omega (arith, steps-fit (a .from .tick) (a .step) (a .n) (omega arith) (omega arith) (omega arith))
-
-div-t9 : tie.Need-div-t9
-div-t9 c = search needs
-
-add-t10 : tie.Need-add-t10
-add-t10 c =
+add-t8 c =
     let a = c .before .before .before .args in
     omega (
       arith,
@@ -34,4 +28,4 @@ returns : tie.Need-returns
 returns c = ahead-at _ _ (omega arith) _ _ _ (omega arith) (omega arith) (c .before .before .before .pre .1 .3)
 
 pub counter-ahead-spec : {M : Type 1} → statement M
-counter-ahead-spec = tie.close (tie.spec add-t6 mul-t7 add-t8 div-t9 add-t10 returns)
+counter-ahead-spec = tie.close (tie.spec add-t6 midnights-requires add-t8 returns)
