@@ -305,7 +305,7 @@ PLACES = "leb (c .place) (length (g .kept (c .k)))"
 NUMBER = "leb (c .number) (next g c - g .start)"
 NEXT = "getD (g .kept (c .k)) (c .place) (g .ends (c .k))"
 BELOW_COUNT = "below (present b) n = ltb n b"
-WEEK_ZERO = "week d w zero = ofDays d (min (w + 7) rangeEnd)"
+WEEK_ZERO = "week d w zero = ofDays (weekZero d w) (min (w + 7) rangeEnd)"
 FORMED = "formedIn State.Running g c = poised g c"
 ENDED = "formedIn (State.Ended cause) g c = true\n"
 CAUSES = {"Count": "count", "Interval": "interval", "Until": "until", "NoTick": "no-tick", "Range": "range"}
@@ -325,7 +325,7 @@ BOUNDS = (
     ("seconds before the start count", CURSORS, NUMBER, "leb (c .number) ((next g c - g .start) + (g .start - next g c))", [], "one-before-the-start"),
     ("a candidate before the start refused", CURSORS, NUMBER, f"(leb (g .start) (next g c) && {NUMBER})", [], "none-before-the-start"),
     ("UNTIL counts", CURSORS, NUMBER, f"({NUMBER} && not (above (g .until) (next g c)))", [NOT, "Rattle.machine.specs.Given.{above}"], "past-until"),
-    ("the last week isn't cut", PERIODS, WEEK_ZERO, "week d w zero = ofDays d (w + 7)", [], "beyond-last-week-end"),
+    ("the last week isn't cut", PERIODS, WEEK_ZERO, "week d w zero = ofDays (weekZero d w) (w + 7)", [], "beyond-last-week-end"),
     ("the last week is cut a day early", PERIODS, WEEK_ZERO, WEEK_ZERO.replace("rangeEnd", "(rangeEnd - 1)"), [], "to-last-week-end"),
     ("ended at INTERVAL 0 refused", CURSORS, ENDED, "formedIn (State.Ended cause) g c = leb 1 (g .interval)\n", [], "ended-at-interval-0"),
 )

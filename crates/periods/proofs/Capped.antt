@@ -12,7 +12,7 @@ use Rattle.calendar.proofs.Dates.{date-is}
 use Rattle.rule.specs.declared.rrule.Frequency.{Frequency}
 use Rattle.rule.specs.declared.rrule.Rule.{Rule}
 use Rattle.rule.specs.Instants.{second, rangeEnd, dayOf}
-use Rattle.rule.specs.Periods.{month, periodAfter, period, inRange}
+use Rattle.rule.specs.Periods.{weekZero, month, periodAfter, period, inRange}
 use Rattle.rule.specs.Moves.{ticks}
 use Rattle.rule.proofs.Order.{below-or, months-rise, monthIn}
 use Rattle.periods.specs.declared.counter_date.Counter.{Counter}
@@ -96,9 +96,9 @@ month-above : (d : ℕ) → rangeEnd ≤ d → 120000 ≤ monthsBefore d
 unfolding dateOf
 month-above d h = omega (arith, year-above d h)
 
--- A start after 9999: no period begins in range.
+-- A start after 9999: no period begins in range. Here, and here alone, week period 0 has to begin on the start's own day.
 begins-late : (f : Frequency) (wkst s n : ℕ) → rangeEnd * 86400 ≤ s → rangeEnd * 86400 ≤ periodAfter f wkst s n .begins
-unfolding periodAfter month
+unfolding periodAfter month weekZero
 begins-late Frequency.Yearly wkst s n h =
     let l : 10000 ≤ yearOf (dayOf s) = year-above (dayOf s) (omega arith) in
     omega (arith, year-limit, years-rise 10000 (yearOf (dayOf s) + n) (omega arith) (omega arith))

@@ -16,9 +16,10 @@ use Rattle.rule.specs.declared.rrule.Rule.{Rule}
 use Rattle.rule.specs.Instants.{second, rangeEnd, dayOf}
 use Rattle.rule.specs.Days.{weekOf}
 use Rattle.rule.specs.Filling.{isBelow}
-use Rattle.rule.specs.Periods.{week, month, periodAfter, period, inRange}
+use Rattle.rule.specs.Periods.{weekZero, week, month, periodAfter, period, inRange}
 use Rattle.rule.specs.Moves.{fine, ticks}
 use Rattle.rule.proofs.Order.{below-or, first, month-next, months-rise, monthIn, month-low}
+use Rattle.rule.proofs.WeekZero.{week-zero-by}
 use Rattle.periods.specs.Claims.{InRangeIs, DayIsNumber, PlaceIsTick}
 use Rattle.periods.specs.Claims.{HourlyHour, MinutelyHour, MinutelyMinute, SecondlyHour, SecondlyMinute, SecondlySecond}
 use Rattle.periods.specs.Counters.{numberOf, stepOf, counterAt, limitOf}
@@ -58,9 +59,11 @@ month-in-range n l =
     omega (arith, month-limit, month-next n l, some-days (leap (n / 12)) (n % 12) (omega arith), months-rise (n + 1) 120000 (omega arith) (omega arith)))
     (λ (h : 120000 ≤ n / 1). omega (arith, month-limit, months-rise 120000 n (omega arith) (omega arith))))
 
--- week n after that of the day d, in days: the start's own day comes no later than the first week ends
+-- week n after that of the day d, in days: week period 0 begins no later than on that day
 week-in-range : (wkst d n : ℕ) → d < rangeEnd → ltb (week d (weekOf wkst d) n .begins) (rangeEnd * 86400) ≡ ltb ((weekOf wkst d + 7 * n) / 1) rangeEnd
-week-in-range wkst d zero h = lt-ltb (d * 86400) (rangeEnd * 86400) (omega arith) ∙ sym (lt-ltb ((weekOf wkst d + 7 * 0) / 1) rangeEnd (omega arith))
+week-in-range wkst d zero h =
+    lt-ltb (weekZero d (weekOf wkst d) * 86400) (rangeEnd * 86400) (omega (arith, week-zero-by d (weekOf wkst d)))
+    ∙ sym (lt-ltb ((weekOf wkst d + 7 * 0) / 1) rangeEnd (omega arith))
 week-in-range wkst d (suc n) h =
     same-test ((weekOf wkst d + 7 * suc n) * 86400) (rangeEnd * 86400) ((weekOf wkst d + 7 * suc n) / 1) rangeEnd
     (λ (l : (weekOf wkst d + 7 * suc n) * 86400 < rangeEnd * 86400). omega arith)

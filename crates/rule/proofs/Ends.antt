@@ -22,10 +22,11 @@ use Rattle.rule.proofs.Listed.{candidates-are}
 use Rattle.rule.proofs.Moved.{not-both, again, move-is}
 use Rattle.rule.proofs.Skipped.{lands}
 use Rattle.rule.proofs.Order.{months-rise, month-low, monthIn, day-times}
+use Rattle.rule.proofs.WeekZero.{week-zero-by}
 
 week-begins : (d w a b : ℕ) → d ≤ w + 7 → a ≤ b → week d w a .begins ≤ week d w b .begins
 week-begins d w zero zero l h = omega arith
-week-begins d w zero (suc b) l h = omega arith
+week-begins d w zero (suc b) l h = omega (arith, week-zero-by d w)
 week-begins d w (suc a) zero l h = absurd (omega arith)
 week-begins d w (suc a) (suc b) l h = omega arith
 

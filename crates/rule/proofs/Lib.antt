@@ -24,4 +24,5 @@ pub mod Skipped
 pub mod SlotLaws
 pub mod SoundPeriods
 pub mod ValueLaws
+pub mod WeekZero
 pub mod Weeks

@@ -20,6 +20,7 @@ use Rattle.rule.specs.Instants.{second, lastInstant, rangeEnd, dayOf}
 use Rattle.rule.specs.Days.{weekOf}
 use Rattle.rule.specs.Periods.{week, month, periodAfter, period, inRange}
 use Rattle.rule.specs.Meaning.{PeriodsInOrder, StartInPeriod, PeriodsMeet, Within, PeriodHolds, OnePeriod}
+use Rattle.rule.proofs.WeekZero.{week-zero-by}
 
 pub below-or : (a b : ℕ) → (a < b) ⊎ (b ≤ a)
 below-or a b = go (decLt a b)
@@ -116,7 +117,7 @@ holds-start Frequency.Monthly wkst s h k =
     let p = in-month (dayOf s) in
     let e : monthIn (dayOf s) + 0 ≡ monthIn (dayOf s) = omega arith in
     rw e (omega arith, omega arith)
-holds-start Frequency.Weekly wkst s h k = (omega arith, omega arith)
+holds-start Frequency.Weekly wkst s h k = (omega (arith, week-zero-by (dayOf s) (weekOf wkst (dayOf s))), omega arith)
 holds-start Frequency.Daily wkst s h k = (omega arith, omega arith)
 holds-start Frequency.Hourly wkst s h k = (omega arith, omega arith)
 holds-start Frequency.Minutely wkst s h k = (omega arith, omega arith)
@@ -179,7 +180,7 @@ holds-in Frequency.Monthly wkst s t w h k =
     (monthIn (dayOf t) - monthIn (dayOf s), rw e (omega arith, omega arith))
 holds-in Frequency.Weekly wkst s t w h k =
     ⊎-elim
-    (λ (l : dayOf t < weekOf wkst (dayOf s) + 7). (0, (omega arith, omega arith)))
+    (λ (l : dayOf t < weekOf wkst (dayOf s) + 7). (0, (omega (arith, week-zero-by (dayOf s) (weekOf wkst (dayOf s))), omega arith)))
     (λ (l : weekOf wkst (dayOf s) + 7 ≤ dayOf t). let n : ℕ = (dayOf t - weekOf wkst (dayOf s) - 7) / 7 in (suc n, (omega arith, omega arith)))
     (below-or (dayOf t) (weekOf wkst (dayOf s) + 7))
 holds-in Frequency.Daily wkst s t w h k = (t / 86400 - s / 86400, (omega arith, omega arith))

@@ -30,6 +30,7 @@ use Rattle.rule.proofs.Order.{below-or, first, month-next, months-rise,
 use Rattle.rule.proofs.Moved.{move-is}
 use Rattle.rule.proofs.Skipped.{no-members, nothing-skipped}
 use Rattle.rule.proofs.Ends.{nothing-left}
+use Rattle.rule.proofs.WeekZero.{week-zero-by}
 
 -- the range ends with the year 9999
 ten-thousand : newYear 10000 ≡ rangeEnd
@@ -70,7 +71,7 @@ begins-first : (f : Frequency) (wkst s n : ℕ) → wkst ≤ 6 → periodAfter f
 unfolding periodAfter month
 begins-first Frequency.Yearly wkst s n w h = day-times _ _ (omega (arith, years-grow (yearOf (dayOf s) + n) (omega (arith, year-of-is (dayOf s) .low))))
 begins-first Frequency.Monthly wkst s n w h = day-times _ _ (omega (arith, month-next (monthIn (dayOf s) + n) (omega (arith, month-low (dayOf s)))))
-begins-first Frequency.Weekly wkst s zero w h = omega arith
+begins-first Frequency.Weekly wkst s zero w h = omega (arith, week-zero-by (dayOf s) (weekOf wkst (dayOf s)))
 begins-first Frequency.Weekly wkst s (suc n) w h = omega arith
 begins-first Frequency.Daily wkst s n w h = omega arith
 begins-first Frequency.Hourly wkst s n w h = omega arith

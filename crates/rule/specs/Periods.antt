@@ -31,10 +31,14 @@ month n = ofDays (firstOf (n / 12) (n % 12 + 1)) (firstOf ((n + 1) / 12) ((n + 1
 abbrev pub unit : ℕ → ℕ → Period
 unit length n = record { begins = n * length; ends = (n + 1) * length }
 
--- Week period 0 begins on the start's own day d and ends with the start's calendar week, which begins on the day w; later ones are whole
--- calendar weeks. A week is cut at the end of 9999.
+-- The first day of week period 0: of the start's calendar week, which begins on the day w, the start's own day d. Proofs use two facts
+-- of it alone (proofs/WeekZero).
+unfoldable pub weekZero : ℕ → ℕ → ℕ
+weekZero d w = d
+
+-- Week period 0 begins there and ends with the start's calendar week; later ones are whole calendar weeks. A week is cut at the end of 9999.
 abbrev pub week : ℕ → ℕ → ℕ → Period
-week d w zero = ofDays d (min (w + 7) rangeEnd)
+week d w zero = ofDays (weekZero d w) (min (w + 7) rangeEnd)
 week d w (suc n) = ofDays (w + 7 * suc n) (min (w + 7 * suc n + 7) rangeEnd)
 
 -- the period n units after the one that holds the second s
@@ -50,7 +54,7 @@ periodAfter Frequency.Secondly wkst s n = unit 1 (s + n)
 
 -- Period k is the start's period moved on by k times INTERVAL.
 unfoldable pub period : Rule → ℕ → Period
-unfolding periodAfter
+unfolding periodAfter weekZero
 period r k = periodAfter (r .freq) (r .wkst) (second (r .start)) (k * r .interval)
 
 -- it begins in range

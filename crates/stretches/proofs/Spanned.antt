@@ -12,9 +12,10 @@ use Rattle.rule.specs.declared.rrule.Frequency.{Frequency}
 use Rattle.rule.specs.declared.rrule.Rule.{Rule}
 use Rattle.rule.specs.Instants.{second, rangeEnd, dayOf}
 use Rattle.rule.specs.Days.{weekOf}
-use Rattle.rule.specs.Periods.{week, month, periodAfter, period, inRange}
+use Rattle.rule.specs.Periods.{weekZero, week, month, periodAfter, period, inRange}
 use Rattle.rule.specs.Moves.{ticks}
 use Rattle.rule.proofs.Order.{first, monthIn}
+use Rattle.rule.proofs.WeekZero.{week-zero-by, week-zero-from}
 use Rattle.periods.specs.Counters.{numberOf, stepOf, counterAt, limitOf}
 use Rattle.periods.proofs.Counted.{in-range-is}
 use Rattle.stretches.specs.Claims.{FirstDayIs, LastDayIs, DaysOfPeriod}
@@ -42,9 +43,11 @@ month-first n = let e : n / 1 ≡ n = omega arith in rw e (omega arith)
 month-last : (n : ℕ) → (first (n + 1) * 86400 + 86399) / 86400 ≡ first (n / 1 + 1)
 month-last n = let e : n / 1 ≡ n = omega arith in rw e (omega arith)
 
-week-first : (wkst d n : ℕ) → dayOf (week d (weekOf wkst d) n .begins) ≡ max ((weekOf wkst d + 7 * n) / 1) d
-week-first wkst d zero = omega arith
-week-first wkst d (suc n) = omega arith
+week-first : (wkst d n v : ℕ) → v ≡ weekOf wkst d + 7 * n → dayOf (week d (weekOf wkst d) n .begins) ≡ max v (weekZero d v)
+week-first wkst d zero v e =
+    let f : v ≡ weekOf wkst d = omega arith in
+    rw f (omega (arith, week-zero-from d (weekOf wkst d) (omega arith)))
+week-first wkst d (suc n) v e = omega (arith, week-zero-by d v)
 
 week-last : (wkst d n : ℕ) → (week d (weekOf wkst d) n .ends + 86399) / 86400 ≡ min ((weekOf wkst d + 7 * n) / 1 + 7) rangeEnd
 week-last wkst d zero = omega arith
@@ -56,7 +59,8 @@ module _ (wkst s k i : ℕ) where
   unfolding periodAfter month numberOf stepOf daysAt
   first-day-after Frequency.Yearly = year-first (yearOf (dayOf s) + k * i)
   first-day-after Frequency.Monthly = month-first (monthIn (dayOf s) + k * i)
-  first-day-after Frequency.Weekly = rw (mul-left-comm k 7 i) (week-first wkst (dayOf s) (k * i))
+  first-day-after Frequency.Weekly =
+      rw (mul-left-comm k 7 i) (week-first wkst (dayOf s) (k * i) ((weekOf wkst (dayOf s) + 7 * (k * i)) / 1) (omega arith))
   first-day-after Frequency.Daily = omega arith
   first-day-after Frequency.Hourly = omega arith
   first-day-after Frequency.Minutely = omega arith

@@ -5,6 +5,7 @@ use lib.Dec.{ltb}
 use Rattle.calendar.specs.Calendar.{if_then_else_, newYear, firstOf}
 use Rattle.rule.specs.declared.rrule.Frequency.{Frequency}
 use Rattle.rule.specs.Instants.{rangeEnd}
+use Rattle.rule.specs.Periods.{weekZero}
 use Rattle.periods.specs.Counters.{limitOf}
 use Rattle.stretches.specs.declared.counter_date.Days.{Days}
 
@@ -12,12 +13,12 @@ use Rattle.stretches.specs.declared.counter_date.Days.{Days}
 abbrev pub firstOfMonth : ℕ → ℕ
 firstOfMonth n = firstOf (n / 12) (n % 12 + 1)
 
--- The days of the period with this number; week period 0 begins on the start's own day d, and a week is cut at the end of 9999.
+-- The days of the period with this number. The start's day is d: it tells where week period 0 begins. A week is cut at the end of 9999.
 unfoldable pub daysAt : Frequency → ℕ → ℕ → Days
-unfolding firstOf
+unfolding firstOf weekZero
 daysAt Frequency.Yearly d n = record { from = newYear n; to = newYear (n + 1) }
 daysAt Frequency.Monthly d n = record { from = firstOfMonth n; to = firstOfMonth (n + 1) }
-daysAt Frequency.Weekly d n = record { from = max n d; to = min (n + 7) rangeEnd }
+daysAt Frequency.Weekly d n = record { from = max n (weekZero d n); to = min (n + 7) rangeEnd }
 daysAt Frequency.Daily d n = record { from = n; to = n + 1 }
 daysAt Frequency.Hourly d n = record { from = n; to = n + 1 }
 daysAt Frequency.Minutely d n = record { from = n; to = n + 1 }

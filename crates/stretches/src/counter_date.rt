@@ -3,6 +3,7 @@ use calendar::utils;
 use rule::rrule::Frequency;
 ghost use mathlib.Core.Path.{_≡_};
 ghost use Prim.Native.Nat.{_≤_, min, max};
+ghost use Rattle.rule.specs.Periods.{weekZero};
 ghost use Rattle.stretches.specs.Stretches.{firstOfMonth, daysIn};
 
 // The days of a period, or the day that it is a part of: from the first up to the one after the last.
@@ -67,7 +68,7 @@ fn first_of_month(number: u64) -> u64
     utils::day_of_date((number / 12) as u32, (number % 12 + 1) as u8, 1)
 }
 
-// The days of the week that begins on a day: none before the start's, nor after 9999.
+// The days of the week that begins on a day: none before week period 0, nor after 9999.
 fn days_of_week(startday: u64, number: u64) -> Days
     ensures { λ r. ⌜ r ≡ daysIn Frequency.Weekly startday number ⌝ }
 {
@@ -75,9 +76,16 @@ fn days_of_week(startday: u64, number: u64) -> Days
         return NO_DAYS;
     }
     Days {
-        from: later(number, startday),
+        from: later(number, week_zero(startday, number)),
         to: earlier(number + 7, RANGE_END),
     }
+}
+
+// The first day of week period 0, where the start's week begins on a day: the start's own.
+fn week_zero(startday: u64, week: u64) -> u64
+    ensures { λ r. ⌜ r ≡ weekZero startday week ⌝ }
+{
+    startday
 }
 
 // A day alone.
