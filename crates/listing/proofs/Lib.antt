@@ -1,9 +1,5 @@
 pub mod Demands
 pub mod Entering
 pub mod OneAnswer
-pub mod Opened
-pub mod Poising
-pub mod Spans
 pub mod Turns
 pub mod WalkLaws
-pub mod Yielded

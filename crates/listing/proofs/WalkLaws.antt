@@ -7,7 +7,6 @@ use mathlib.Core.List.{List, [], _∷_}
 use mathlib.Core.Logic.{_⊎_, inl, inr}
 use lib.ListN.{length, set, drop, length-set}
 use lib.Dec.{eqb, ltb}
-use native.Mathlib.Nat.{zero-mul}
 use native.Mathlib.Omega.{arith}
 use native.Mathlib.Decide.{decLt, ℕ-discrete}
 use borrow.Author.Tests.{eqb-true, eqb-false, eq-eqb, ne-eqb}
@@ -20,7 +19,8 @@ use Rattle.machine.specs.Cursors.{remaining}
 use Rattle.machine.specs.Run.{Now, Outcome}
 use Rattle.machine.specs.Compute as compute
 use Rattle.machine.specs.Calls.{beside, answered}
-use Rattle.machine.proofs.RunLaws.{now, running, walk-full, walk-until, walk-pass, walk-count, walk-hand, runs-stopped, runs-more, runs-limited, runs-to, runs-noTick, runs-range}
+use Rattle.machine.proofs.RunLaws.{now, running, walk-full, walk-until, walk-pass, walk-count, walk-hand}
+use Rattle.machine.proofs.RunLaws.{runs-stopped, runs-more, runs-limited, runs-to, runs-noTick, runs-range}
 use Rattle.walks.specs.declared.rrule_iter.Why.{Why}
 use Rattle.walks.specs.declared.rrule_iter.Held.{Held}
 use Rattle.walks.specs.declared.rrule_iter.Walked.{Walked}
@@ -31,9 +31,7 @@ use Rattle.rule.proofs.GivenLaws.{neither}
 use Rattle.walks.specs.Passing.{passedDays, Timely}
 use Rattle.walks.proofs.Passing.{passed-holds, passed-walks}
 use Rattle.walks.proofs.Walkable.{is-walkable, days-walked, places-walked}
-use Rattle.positions.specs.Places.{keptPlaces, over}
-use Rattle.positions.proofs.PlaceLaws.{places-below}
-use Rattle.listing.specs.Opening.{frameOf, keptCount, chosenOver, keptBy, chosenBy, secondKept}
+use Rattle.opening.specs.Opening.{secondKept}
 use Rattle.settling.specs.declared.rrule_iter.Settled.{Settled}
 use Rattle.settling.specs.Settling.{answerOf, movedTo, settledThrough, settled}
 
@@ -137,12 +135,12 @@ module _ (g : Given ℕ) (s : Now ℕ) (left m : ℕ) (h : Held) (buffer : List 
       → (full spent : Bool) → eqb (h .handed) (length buffer) ≡ full → eqb (h .moves) m ≡ spent → (a : Answer) → settledThrough full spent h ≡ Settled.Stops a
       → answered (compute.runs g left s) ≡ beside a buffer
   through-is e true spent f p a q =
-      ap answered (runs-more g s (h .k) (h .place) (h .number) (h .moves) (h .handed) buffer e (eqb-true _ _ f) left)
+      ap answered (runs-more g s (h .cursor .k) (h .cursor .place) (h .cursor .number) (h .moves) (h .handed) buffer e (eqb-true _ _ f) left)
       ∙ ap (λ (x : Answer). beside x buffer) (one-stop _ _ q)
   through-is e false true f p a q =
       let z : left ≡ 0 = omega (arith, eqb-true (h .moves) m p) in
       ap (λ (n : ℕ). answered (compute.runs g n s)) z
-      ∙ ap answered (runs-limited g s (h .k) (h .place) (h .number) (h .moves) (h .handed) buffer e (eqb-false _ _ f))
+      ∙ ap answered (runs-limited g s (h .cursor .k) (h .cursor .place) (h .cursor .number) (h .moves) (h .handed) buffer e (eqb-false _ _ f))
       ∙ ap (λ (x : Answer). beside x buffer) (one-stop _ _ q)
   through-is e false false f p a q = absurd (clash a q)
 
@@ -190,23 +188,23 @@ module _ (g : Given ℕ) (s : Now ℕ) (left m : ℕ) (w : Walked) (buffer : Lis
       go (yes e) = absurd (onward .unspent e)
       go (no e) = omega arith
 
-  pub then-moves : m < 2 ^ 32 → (k : ℕ) → g .move (w .held .k) ≡ To k
+  pub then-moves : m < 2 ^ 32 → (k : ℕ) → g .move (w .held .cursor .k) ≡ To k
       → compute.runs g left s ≡ compute.runs g (m - movedTo k (w .held) .moves) (nowOf State.Running (movedTo k (w .held)) buffer)
   then-moves small k e =
       let counted : w .held .moves + 1 ≡ min (w .held .moves + 1) 4294967295 = omega (arith, one-left) in
       ap (λ (n : ℕ). compute.runs g n s) one-left
-      ∙ runs-to g s (w .held .k) (w .held .place) (w .held .number) (w .held .moves) (w .held .handed) buffer came (onward .free) (m - (w .held .moves + 1)) k e
-      ∙ ap (λ (n : ℕ). compute.runs g (m - n) (running k 0 (w .held .number) n (w .held .handed) buffer)) counted
+      ∙ runs-to g s (w .held .cursor .k) (w .held .cursor .place) (w .held .cursor .number) (w .held .moves) (w .held .handed) buffer came (onward .free) (m - (w .held .moves + 1)) k e
+      ∙ ap (λ (n : ℕ). compute.runs g (m - n) (running k 0 (w .held .cursor .number) n (w .held .handed) buffer)) counted
 
-  pub then-no-tick : g .move (w .held .k) ≡ NoTick → answered (compute.runs g left s) ≡ beside (answerOf Stop.Ended (State.Ended Cause.NoTick) (w .held)) buffer
+  pub then-no-tick : g .move (w .held .cursor .k) ≡ NoTick → answered (compute.runs g left s) ≡ beside (answerOf Stop.Ended (State.Ended Cause.NoTick) (w .held)) buffer
   then-no-tick e =
       ap (λ (n : ℕ). answered (compute.runs g n s)) one-left
-      ∙ ap answered (runs-noTick g s (w .held .k) (w .held .place) (w .held .number) (w .held .moves) (w .held .handed) buffer came (onward .free) (m - (w .held .moves + 1)) e)
+      ∙ ap answered (runs-noTick g s (w .held .cursor .k) (w .held .cursor .place) (w .held .cursor .number) (w .held .moves) (w .held .handed) buffer came (onward .free) (m - (w .held .moves + 1)) e)
 
-  pub then-range : g .move (w .held .k) ≡ Range → answered (compute.runs g left s) ≡ beside (answerOf Stop.Ended (State.Ended Cause.Range) (w .held)) buffer
+  pub then-range : g .move (w .held .cursor .k) ≡ Range → answered (compute.runs g left s) ≡ beside (answerOf Stop.Ended (State.Ended Cause.Range) (w .held)) buffer
   then-range e =
       ap (λ (n : ℕ). answered (compute.runs g n s)) one-left
-      ∙ ap answered (runs-range g s (w .held .k) (w .held .place) (w .held .number) (w .held .moves) (w .held .handed) buffer came (onward .free) (m - (w .held .moves + 1)) e)
+      ∙ ap answered (runs-range g s (w .held .cursor .k) (w .held .cursor .place) (w .held .cursor .number) (w .held .moves) (w .held .handed) buffer came (onward .free) (m - (w .held .moves + 1)) e)
 
 -- the candidates from a place on
 pub drop-tabled : (f : ℕ → ℕ) (n i p : ℕ) → p ≤ n → drop p (tabled f i n) ≡ tabled f (i + p) (n - p)
@@ -223,13 +221,13 @@ module _ (positioned : Bool) (f : Frame) (b : Bounds) (h : Held) (kept : ℕ) (d
     (framed : Framed f) (ready : Ready b h buffer) where
   pub by-places : positioned ≡ true → kept ≤ 732
       → placesWalk f b h kept places days lists buffer
-      ≡ compute.walk (givenBy b) (tabled (secondKept positioned f days lists places) (h .place) (kept - h .place)) (nowOf State.Running h buffer)
+      ≡ compute.walk (givenBy b) (tabled (secondKept positioned f days lists places) (h .cursor .place) (kept - h .cursor .place)) (nowOf State.Running h buffer)
   unfolding walkFrom secondKept
   by-places e l = places-walked f b h buffer kept places days lists l (is-walkable f b h buffer framed ready) ∙ rw e
 
   pub by-days : positioned ≡ false → kept ≡ f .days * f .times
       → daysWalk f b h days lists buffer
-      ≡ compute.walk (givenBy b) (tabled (secondKept positioned f days lists places) (h .place) (kept - h .place)) (nowOf State.Running h buffer)
+      ≡ compute.walk (givenBy b) (tabled (secondKept positioned f days lists places) (h .cursor .place) (kept - h .cursor .place)) (nowOf State.Running h buffer)
   unfolding walkFrom secondKept
   by-days e q = days-walked f b h buffer days lists (is-walkable f b h buffer framed ready) ∙ rw (e, q)
 
@@ -240,48 +238,17 @@ ready-passed full f b h days buffer r e y =
 
 -- and where days were passed, the walk is the same
 pub passed-same : (f : Frame) (b : Bounds) (h : Held) (days lists buffer : List ℕ) (r : Held)
-    → Framed f → Timely f lists → Ready b h buffer → r ≡ passedDays (ltb 0 (h .number) || eqb (h .handed) (length buffer)) f b h days
+    → Framed f → Timely f lists → Ready b h buffer → r ≡ passedDays (ltb 0 (h .cursor .number) || eqb (h .handed) (length buffer)) f b h days
     → daysWalk f b r days lists buffer ≡ daysWalk f b h days lists buffer
 passed-same f b h days lists buffer r v z y e =
     days-walked f b r buffer days lists (is-walkable f b r buffer v (ready-passed _ f b h days buffer r e y))
     ∙ ap (λ (x : Held). walkFrom b (secondAt f days lists) (f .days * f .times) x buffer) e
-    ∙ sym (passed-walks (ltb 0 (h .number) || eqb (h .handed) (length buffer)) f b h days lists buffer (λ q. eqb-false _ _ (neither (ltb 0 (h .number)) (eqb (h .handed) (length buffer)) q .1)) z)
+    ∙ sym (passed-walks (ltb 0 (h .cursor .number) || eqb (h .handed) (length buffer)) f b h days lists buffer (λ q. eqb-false _ _ (neither (ltb 0 (h .cursor .number)) (eqb (h .handed) (length buffer)) q .1)) z)
     ∙ sym (days-walked f b h buffer days lists (is-walkable f b h buffer v y))
 
--- without positions all candidates are kept, and no place is written
-module _ (positioned : Bool) (e : positioned ≡ false) (bysetpos : List Bool) (f : Frame) where
-  pub kept-all : keptBy positioned bysetpos f ≡ f .days * f .times
-  unfolding keptCount
-  kept-all = rw e
-
-  pub none-chosen : (slots : List ℕ) → slots ≡ chosenBy positioned bysetpos f slots
-  unfolding chosenOver
-  none-chosen slots = rw e
-
--- ---- where no day passes, nothing is kept and there is nothing to walk over
-none-kept : (bysetpos : List Bool) (n : ℕ) → n ≡ 0 → keptPlaces bysetpos n ≡ []
-none-kept bysetpos n e = go (keptPlaces bysetpos n) refl
-  where
-    go : (l : List ℕ) → keptPlaces bysetpos n ≡ l → l ≡ []
-    go [] q = refl
-    go (x ∷ l) q = absurd (let h = places-below bysetpos n 0 (subst (λ (z : List ℕ). 0 < length z) (sym q) (omega arith)) in omega arith)
-
-module _ (bysetpos : List Bool) (f : Frame) (e : f .days ≡ 0) where
-  none : f .days * f .times ≡ 0
-  none = rw e (zero-mul (f .times))
-
-  pub kept-none : (positioned : Bool) → keptBy positioned bysetpos f ≡ 0
-  unfolding keptCount
-  kept-none true = ap (λ (l : List ℕ). length l) (none-kept bysetpos (f .days * f .times) none)
-  kept-none false = none
-
-  pub chosen-none : (positioned : Bool) (slots : List ℕ) → slots ≡ chosenBy positioned bysetpos f slots
-  unfolding chosenOver over
-  chosen-none true slots = sym (ap (λ (l : List ℕ). over l slots) (none-kept bysetpos (f .days * f .times) none))
-  chosen-none false slots = refl
-
-  pub walked-none : (positioned : Bool) (b : Bounds) (h : Held) (g : ℕ → ℕ) (buffer : List ℕ)
-      → walkedBy (record { why = Why.Through; held = h }) buffer
-      ≡ compute.walk (givenBy b) (tabled g (h .place) (keptBy positioned bysetpos f - h .place)) (nowOf State.Running h buffer)
-  unfolding walkedBy tabled compute.walk
-  walked-none positioned b h g buffer = let z : keptBy positioned bysetpos f - h .place ≡ 0 = omega (arith, kept-none positioned) in rw z
+-- where nothing is kept there is nothing to walk over
+pub walked-none : (b : Bounds) (h : Held) (f : ℕ → ℕ) (kept : ℕ) (buffer : List ℕ) → kept ≡ 0
+    → walkedBy (record { why = Why.Through; held = h }) buffer
+    ≡ compute.walk (givenBy b) (tabled f (h .cursor .place) (kept - h .cursor .place)) (nowOf State.Running h buffer)
+unfolding walkedBy tabled compute.walk
+walked-none b h f kept buffer e = let z : kept - h .cursor .place ≡ 0 = omega arith in rw z

@@ -1,12 +1,6 @@
 // The run: a rule's due instants, from a cursor on, into a lent buffer, with a budget of moves.
-use crate::cursors::is_poised;
-use crate::opening::covers;
-use crate::opening::period_days;
-use crate::plan::Plan;
-use crate::plan::plan_of;
-use crate::walking::walk_opened;
+use crate::walking::walk_period;
 use basics::faults::refused;
-use calendar::utils::year_of_day;
 use machine::Answer;
 use machine::Cause;
 use machine::Cursor;
@@ -14,6 +8,14 @@ use machine::Fault;
 use machine::State;
 use machine::Stop;
 use moves::counter_date::increment;
+use opening::cursors::is_fit;
+use opening::period::Period;
+use opening::period::covers;
+use opening::period::open_period;
+use opening::period::open_year;
+use opening::plan::Plan;
+use opening::plan::Shape;
+use opening::plan::plan_of;
 use periods::counter_date::Counter;
 use periods::counter_date::Reached;
 use periods::counter_date::counter_at;
@@ -25,94 +27,122 @@ use settling::rrule_iter::ended;
 use settling::rrule_iter::held_at;
 use settling::rrule_iter::moved_to;
 use settling::rrule_iter::settle;
+use stretches::counter_date::Days;
 use stretches::counter_date::days_of;
-use years::iterinfo::rebuild;
+use walks::rrule_iter::Bounds;
 ghost use mathlib.Core.Path.{_≡_};
-ghost use mathlib.Core.Bool.{true};
-ghost use Prim.Native.Nat.{_<_};
+ghost use mathlib.Core.Bool.{true, _||_};
+ghost use Prim.Native.Nat.{_≤_};
 ghost use Rattle.machine.specs.declared.State.{State};
-ghost use Rattle.machine.specs.Cursors.{poised};
-ghost use Rattle.machine.specs.Calls.{beside, answered};
-ghost use Rattle.machine.specs.Compute.{runs};
+ghost use Rattle.machine.specs.Calls.{beside};
+ghost use Rattle.rule.specs.Periods.{inRange};
 ghost use Rattle.rule.specs.Records.{yielded};
-ghost use Rattle.rule.specs.Run.{periods, runOf};
+ghost use Rattle.rule.specs.Run.{runOf};
 ghost use Rattle.periods.specs.Counters.{counterAt};
-ghost use Rattle.walks.specs.Walks.{nowOf};
-ghost use Rattle.listing.specs.Plans.{planOf};
-ghost use Rattle.settling.specs.Settling.{heldOf};
+ghost use Rattle.opening.specs.Fitting.{isFit};
+ghost use Rattle.opening.specs.Plans.{planOf};
 
-// The run of a good record from a running cursor that is well formed.
+// Whether a cursor was tried before, or fits the period that is opened.
+fn is_taken(
+    tried: bool,
+    shape: Shape,
+    span: Days,
+    tick: u64,
+    bounds: Bounds,
+    period: Period,
+    cursor: Cursor,
+    days: &[u16; 373],
+    lists: &[u8; 144],
+    places: &[u32; 732],
+) -> bool
+    ensures { λ r. ⌜ r ≡ tried || isFit shape span tick bounds period cursor (now (days .entry)) (now (lists .entry)) (now (places .entry)) ⌝ }
+{
+    if tried {
+        return true;
+    }
+    is_fit(
+        shape,
+        span,
+        tick,
+        bounds,
+        period,
+        cursor,
+        days,
+        lists,
+        places,
+    )
+}
+
+// The run of a good record from a running cursor whose period begins in range. The cursor is tried when its period is opened, at the first turn.
 fn run_on(
     rule: Rule,
     plan: Plan,
-    first: Counter,
+    begun: Counter,
     cursor: Cursor,
     buffer: &mut [u64],
     m: u32,
 ) -> Answer
-    requires { ⌜ (yielded rule ≡ true) × (plan ≡ planOf rule) × (first ≡ counterAt rule (cursor .k)) × (cursor .state ≡ State.Running) × (poised (periods rule) cursor ≡ true) ⌝ }
-    ensures { λ r. ⌜ beside r (now (buffer .exit)) ≡ answered (runs (periods rule) m (nowOf State.Running (heldOf cursor) (now (buffer .entry)))) ⌝ }
+    requires { ⌜ (yielded rule ≡ true) × (plan ≡ planOf rule) × (begun ≡ counterAt rule (cursor .k)) × (inRange rule (cursor .k) ≡ true)
+        × (cursor .state ≡ State.Running) × (1 ≤ rule .interval) ⌝ }
+    ensures { λ r. ⌜ beside r (now (buffer .exit)) ≡ runOf rule cursor (now (buffer .entry)) m ⌝ }
 {
-    let freq = plan.freq;
-    let mut counter = first;
+    let shape = plan.shape;
+    let freq = shape.freq;
+    let mut counter = begun;
     let mut held = held_at(cursor);
+    let mut tried = false;
     let mut days = [0; 373];
     let mut places = [0; 732];
-    let begun = days_of(freq, plan.startday, counter.number);
-    let mut info = rebuild(
-        plan.asked,
-        plan.inyear,
-        plan.wkst,
-        year_of_day(begun.from as u32),
-        &rule.byweekno,
-        &rule.byday,
-    );
+    let first = days_of(freq, shape.startday, counter.number);
+    let mut info = open_year(shape, first.from, &rule.byweekno, &rule.byday);
     loop {
-        let span = days_of(freq, plan.startday, counter.number);
+        let span = days_of(freq, shape.startday, counter.number);
         if !covers(info.year, span.from) {
-            info = rebuild(
-                plan.asked,
-                plan.inyear,
-                plan.wkst,
-                year_of_day(span.from as u32),
-                &rule.byweekno,
-                &rule.byday,
-            );
+            info = open_year(shape, span.from, &rule.byweekno, &rule.byday);
             continue;
         }
-        let year = info.year;
-        let from = (span.from - year.first) as usize;
-        let to = (span.to - year.first) as usize;
-        let count = period_days(
-            plan.asked,
-            year,
-            from,
-            to,
+        let period = open_period(
+            shape,
+            info.year,
+            span,
+            counter.tick,
             &rule.bymonth,
             &rule.bymonthday,
             &rule.byyearday,
             &rule.byday,
+            &rule.bysetpos,
             &info.months,
             &info.monthdays,
             &info.fromends,
             &info.weeks,
             &info.nths,
-            &mut days,
-        );
-        let walked = walk_opened(
-            freq,
-            plan.counts,
-            counter.tick,
-            year.first,
-            count,
-            plan.positioned,
-            plan.bounds,
-            held,
             &plan.clock,
-            &rule.bysetpos,
+            &mut days,
+            &mut places,
+        );
+        if !is_taken(
+            tried,
+            shape,
+            span,
+            counter.tick,
+            plan.bounds,
+            period,
+            cursor,
             &days,
             &plan.lists,
-            &mut places,
+            &places,
+        ) {
+            return refused(Fault::Cursor, cursor);
+        }
+        tried = true;
+        let walked = walk_period(
+            shape.positioned,
+            period,
+            plan.bounds,
+            held,
+            &days,
+            &plan.lists,
+            &places,
             buffer,
         );
         held = walked.held;
@@ -120,7 +150,13 @@ fn run_on(
             Settled::Stops(answer) => return answer,
             Settled::Moves => {}
         }
-        match increment(freq, plan.interval, counter, 0 < count, &plan.clock) {
+        match increment(
+            freq,
+            plan.interval,
+            counter,
+            0 < period.frame.days,
+            &plan.clock,
+        ) {
             Reached::To(next) => {
                 counter = next;
                 held = moved_to(next.k, held);
@@ -143,15 +179,12 @@ pub fn run(rule: Rule, cursor: Cursor, buffer: &mut [u64], m: u32) -> Answer
         State::Ended(_) => return answer(Stop::Ended, state, held_at(cursor)),
         State::Running => {}
     }
-    let plan = plan_of(rule);
+    if rule.interval == 0 {
+        return refused(Fault::Cursor, cursor);
+    }
     let freq = rule.freq;
     match counter_at(freq, rule.interval, rule.wkst, rule.start, cursor.k) {
-        Reached::To(counter) => {
-            if !is_poised(rule, plan, cursor) {
-                return refused(Fault::Cursor, cursor);
-            }
-            run_on(rule, plan, counter, cursor, buffer, m)
-        }
+        Reached::To(counter) => run_on(rule, plan_of(rule), counter, cursor, buffer, m),
         Reached::NoTick => refused(Fault::Cursor, cursor),
         Reached::Range => refused(Fault::Cursor, cursor),
     }

@@ -8,26 +8,28 @@ use Rattle.machine.specs.declared.State.{State}
 use Rattle.machine.specs.declared.Stop.{Stop}
 use Rattle.machine.specs.declared.Cursor.{Cursor}
 use Rattle.machine.specs.declared.Answer.{Answer}
+use Rattle.machine.specs.Cursors.{moveTo}
 use Rattle.walks.specs.declared.rrule_iter.Why.{Why}
 use Rattle.walks.specs.declared.rrule_iter.Held.{Held}
 use Rattle.walks.specs.declared.rrule_iter.Walked.{Walked}
+use Rattle.walks.specs.Walks.{inState}
 use Rattle.settling.specs.declared.rrule_iter.Settled.{Settled}
 
 -- What a call holds as it begins; the answer that it gives of what it holds; and what it holds after a move, which is counted up to the largest
 -- count that a u32 has.
 abbrev pub heldOf : Cursor → Held
-heldOf c = record { k = c .k; place = c .place; number = c .number; moves = 0; handed = 0 }
+heldOf c = record { cursor = c; moves = 0; handed = 0 }
 
 abbrev pub answerOf : Stop → State → Held → Answer
 answerOf stop state h = record {
   stop = stop;
-  cursor = record { state = state; k = h .k; place = h .place; number = h .number };
+  cursor = inState state (h .cursor);
   moves = h .moves;
   handed = h .handed;
 }
 
 abbrev pub movedTo : ℕ → Held → Held
-movedTo k h = record { k = k; place = 0; number = h .number; moves = min (h .moves + 1) 4294967295; handed = h .handed }
+movedTo k h = record { cursor = moveTo k (h .cursor); moves = min (h .moves + 1) 4294967295; handed = h .handed }
 
 -- no candidate remains: stop with More where the buffer is full, with Limited where m moves are made
 abbrev pub settledThrough : (full spent : Bool) → Held → Settled

@@ -11,6 +11,7 @@ ghost use mathlib.Core.Path.{_≡_};
 ghost use Prim.Native.Nat.{_+_, min};
 ghost use Rattle.machine.specs.declared.Stop.{Stop};
 ghost use Rattle.machine.specs.declared.State.{State};
+ghost use Rattle.walks.specs.Walks.{inState};
 ghost use Rattle.settling.specs.Settling.{answerOf, heldOf, movedTo, settled};
 
 // What becomes of a call after a walk: it stops with its answer, or moves on.
@@ -19,16 +20,24 @@ pub enum Settled {
     Moves,
 }
 
+// A cursor in another state.
+fn in_state(state: State, cursor: Cursor) -> Cursor
+    ensures { λ r. ⌜ r ≡ inState state cursor ⌝ }
+{
+    Cursor {
+        state,
+        k: cursor.k,
+        place: cursor.place,
+        number: cursor.number,
+    }
+}
+
 // The answer of what a call holds.
 pub fn answer(stop: Stop, state: State, held: Held) -> Answer
     ensures { λ r. ⌜ r ≡ answerOf stop state held ⌝ }
 {
-    let cursor = Cursor {
-        state,
-        k: held.k,
-        place: held.place,
-        number: held.number,
-    };
+    let reached = held.cursor;
+    let cursor = in_state(state, reached);
     Answer {
         stop,
         cursor,
@@ -71,9 +80,7 @@ pub fn held_at(cursor: Cursor) -> Held
     ensures { λ r. ⌜ r ≡ heldOf cursor ⌝ }
 {
     Held {
-        k: cursor.k,
-        place: cursor.place,
-        number: cursor.number,
+        cursor,
         moves: 0,
         handed: 0,
     }
@@ -93,10 +100,11 @@ fn one_more(moves: u32) -> u32
 pub fn moved_to(k: u64, held: Held) -> Held
     ensures { λ r. ⌜ r ≡ movedTo k held ⌝ }
 {
+    let mut cursor = held.cursor;
+    cursor.k = k;
+    cursor.place = 0;
     Held {
-        k,
-        place: 0,
-        number: held.number,
+        cursor,
         moves: one_more(held.moves),
         handed: held.handed,
     }

@@ -4,6 +4,7 @@ use Prim.Native.Nat.{ℕ, _+_, _*_}
 use mathlib.Core.Path.{_≡_, refl}
 use mathlib.Core.Bool.{false, true}
 use mathlib.Core.List.{List, [], _∷_}
+use Rattle.machine.specs.declared.State.{State}
 use Rattle.machine.specs.Run.{atCandidate, counted}
 use Rattle.machine.specs.Compute.{walk}
 use Rattle.rule.specs.declared.rrule.Count.{Count}
@@ -29,7 +30,7 @@ lists : List ℕ
 lists = 9 ∷ 10 ∷ []
 
 at : ℕ → ℕ → ℕ → Held
-at place number handed = record { k = 0; place = place; number = number; moves = 0; handed = handed }
+at place number handed = record { cursor = record { state = State.Running; k = 0; place = place; number = number }; moves = 0; handed = handed }
 
 from : ℕ → Until → Count → Bounds
 from t until count = record { start = 62135596800 + t; until = until; count = count }

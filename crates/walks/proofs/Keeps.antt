@@ -150,9 +150,9 @@ unfolding walkFrom heldIn
 walked-keeps b f n h buffer l w last e =
     let p = read-back (w .why) (w .held) last in
     let s : nowIn (walkFrom b f n h buffer) ≡ nowIn (walkedBy w last) = ap nowIn (sym e) in
-    let a : Goes (length (tabled f (h .place) (n - h .place))) (nowOf State.Running h buffer) (nowIn (walkFrom b f n h buffer)) =
-    walk-goes (givenBy b) (tabled f (h .place) (n - h .place)) (nowOf State.Running h buffer) l in
-    let c : Keeps n h buffer (heldIn (nowIn (walkFrom b f n h buffer))) (nowIn (walkFrom b f n h buffer) .buffer) = record {
+    let a : Goes (length (tabled f (h .cursor .place) (n - h .cursor .place))) (nowOf State.Running h buffer) (nowIn (walkFrom b f n h buffer)) =
+    walk-goes (givenBy b) (tabled f (h .cursor .place) (n - h .cursor .place)) (nowOf State.Running h buffer) l in
+    let c : Keeps n h buffer (heldIn (w .held .cursor .state) (nowIn (walkFrom b f n h buffer))) (nowIn (walkFrom b f n h buffer) .buffer) = record {
       k = a .k;
       moves = a .made;
       long = a .long;
@@ -160,8 +160,8 @@ walked-keeps b f n h buffer l w last e =
       room = a .room;
       number = a .number;
       on = a .on;
-      within = λ m. omega (arith, a .within, tabled-length f (h .place) (n - h .place));
+      within = λ m. omega (arith, a .within, tabled-length f (h .cursor .place) (n - h .cursor .place));
     } in
     subst (λ (x : Held). Keeps n h buffer x last) (p .1)
-    (subst (λ (y : List ℕ). Keeps n h buffer (heldIn (nowIn (walkedBy w last))) y) (p .2)
-    (subst (λ (x : Now ℕ). Keeps n h buffer (heldIn x) (x .buffer)) s c))
+    (subst (λ (y : List ℕ). Keeps n h buffer (heldIn (w .held .cursor .state) (nowIn (walkedBy w last))) y) (p .2)
+    (subst (λ (x : Now ℕ). Keeps n h buffer (heldIn (w .held .cursor .state) x) (x .buffer)) s c))

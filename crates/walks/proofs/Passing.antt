@@ -107,20 +107,20 @@ begins-day p t e = omega (arith, div-add-mod' p t)
 module _ (full : Bool) (f : Frame) (b : Bounds) (h : Held) (days : List ℕ) where
   -- where days are passed, by a motive: none, or those from the day on that begins at the place
   passed-cases : (P : Held → Type 0) → P h
-      → (full ≡ false → h .place ≡ h .place / f .times * f .times → h .place / f .times ≤ f .days
-      → P (heldAt h (h .place + passable b f days (h .place / f .times) (f .days - h .place / f .times) * f .times)))
+      → (full ≡ false → h .cursor .place ≡ h .cursor .place / f .times * f .times → h .cursor .place / f .times ≤ f .days
+      → P (heldAt h (h .cursor .place + passable b f days (h .cursor .place / f .times) (f .days - h .cursor .place / f .times) * f .times)))
       → P (passedDays full f b h days)
   unfolding passedDays passable
-  passed-cases P none some = step (not full && (isFramed f && eqb (h .place % f .times) 0)) refl
+  passed-cases P none some = step (not full && (isFramed f && eqb (h .cursor .place % f .times) 0)) refl
     where
-      beyond : f .days < h .place / f .times → P (heldAt h (h .place + passable b f days (h .place / f .times) (f .days - h .place / f .times) * f .times))
+      beyond : f .days < h .cursor .place / f .times → P (heldAt h (h .cursor .place + passable b f days (h .cursor .place / f .times) (f .days - h .cursor .place / f .times) * f .times))
       beyond l =
-          let z : f .days - h .place / f .times ≡ 0 = omega arith in
-          let e : h .place + passable b f days (h .place / f .times) (f .days - h .place / f .times) * f .times ≡ h .place = rw z (omega arith) in
+          let z : f .days - h .cursor .place / f .times ≡ 0 = omega arith in
+          let e : h .cursor .place + passable b f days (h .cursor .place / f .times) (f .days - h .cursor .place / f .times) * f .times ≡ h .cursor .place = rw z (omega arith) in
           subst (λ (p : ℕ). P (heldAt h p)) (sym e) none
 
-      step : (t : Bool) → (not full && (isFramed f && eqb (h .place % f .times) 0)) ≡ t → P (elim t [
-        | true ↦ heldAt h (h .place + passable b f days (h .place / f .times) (f .days - h .place / f .times) * f .times)
+      step : (t : Bool) → (not full && (isFramed f && eqb (h .cursor .place % f .times) 0)) ≡ t → P (elim t [
+        | true ↦ heldAt h (h .cursor .place + passable b f days (h .cursor .place / f .times) (f .days - h .cursor .place / f .times) * f .times)
         | false ↦ h
       ])
       step false e = none
@@ -128,25 +128,25 @@ module _ (full : Bool) (f : Frame) (b : Bounds) (h : Held) (days : List ℕ) whe
           let v = both (not full) _ e in
           let w = both (isFramed f) _ (v .1) in
           ⊎-elim
-          (λ (l : f .days < h .place / f .times). beyond l)
-          (λ (l : h .place / f .times ≤ f .days). some (not-true _ (v .0)) (begins-day _ _ (eqb-true _ _ (w .1))) l)
-          (below-or (f .days) (h .place / f .times))
+          (λ (l : f .days < h .cursor .place / f .times). beyond l)
+          (λ (l : h .cursor .place / f .times ≤ f .days). some (not-true _ (v .0)) (begins-day _ _ (eqb-true _ _ (w .1))) l)
+          (below-or (f .days) (h .cursor .place / f .times))
 
   -- nothing else changes
-  pub passed-holds : passedDays full f b h days ≡ heldAt h (passedDays full f b h days .place)
-  passed-holds = passed-cases (λ (r : Held). r ≡ heldAt h (r .place)) refl (λ a e l. refl)
+  pub passed-holds : passedDays full f b h days ≡ heldAt h (passedDays full f b h days .cursor .place)
+  passed-holds = passed-cases (λ (r : Held). r ≡ heldAt h (r .cursor .place)) refl (λ a e l. refl)
 
   -- the place stays among the candidates, and does not fall
-  pub passed-within : h .place ≤ f .days * f .times → passedDays full f b h days .place ≤ f .days * f .times
+  pub passed-within : h .cursor .place ≤ f .days * f .times → passedDays full f b h days .cursor .place ≤ f .days * f .times
   passed-within k =
-      passed-cases (λ (r : Held). r .place ≤ f .days * f .times) k
+      passed-cases (λ (r : Held). r .cursor .place ≤ f .days * f .times) k
       (λ a e l.
-      let m : (h .place / f .times + passable b f days (h .place / f .times) (f .days - h .place / f .times)) * f .times ≤ f .days * f .times =
-      mul-le-mul-right (f .times) (omega (arith, passable-short b f days (h .place / f .times) (f .days - h .place / f .times))) in
-      omega (arith, add-mul (h .place / f .times) (passable b f days (h .place / f .times) (f .days - h .place / f .times)) (f .times)))
+      let m : (h .cursor .place / f .times + passable b f days (h .cursor .place / f .times) (f .days - h .cursor .place / f .times)) * f .times ≤ f .days * f .times =
+      mul-le-mul-right (f .times) (omega (arith, passable-short b f days (h .cursor .place / f .times) (f .days - h .cursor .place / f .times))) in
+      omega (arith, add-mul (h .cursor .place / f .times) (passable b f days (h .cursor .place / f .times) (f .days - h .cursor .place / f .times)) (f .times)))
 
-  pub passed-rises : h .place ≤ passedDays full f b h days .place
-  passed-rises = passed-cases (λ (r : Held). h .place ≤ r .place) (omega arith) (λ a e l. omega arith)
+  pub passed-rises : h .cursor .place ≤ passedDays full f b h days .cursor .place
+  passed-rises = passed-cases (λ (r : Held). h .cursor .place ≤ r .cursor .place) (omega arith) (λ a e l. omega arith)
 
   -- With a slot free, or told that the buffer is full, the walk from there is the walk from here, where every time is within its day.
   pub passed-walks : (lists buffer : List ℕ) → (full ≡ false → h .handed ≡ length buffer → ⊥)
@@ -160,8 +160,8 @@ module _ (full : Bool) (f : Frame) (b : Bounds) (h : Held) (days : List ℕ) whe
       refl
       (λ a e l.
       ap (λ (p : ℕ). walkFrom b (secondAt f days lists) (f .days * f .times) (heldAt h p) buffer) e
-      ∙ walk-past b f days lists timely h buffer (free a) (f .days) (f .days - h .place / f .times) (h .place / f .times) (omega arith)
+      ∙ walk-past b f days lists timely h buffer (free a) (f .days) (f .days - h .cursor .place / f .times) (h .cursor .place / f .times) (omega arith)
       ∙ ap
       (λ (p : ℕ). walkFrom b (secondAt f days lists) (f .days * f .times)
-      (heldAt h (p + passable b f days (h .place / f .times) (f .days - h .place / f .times) * f .times)) buffer)
+      (heldAt h (p + passable b f days (h .cursor .place / f .times) (f .days - h .cursor .place / f .times) * f .times)) buffer)
       (sym e))

@@ -10,7 +10,7 @@ use Rattle.machine.specs.Run.{Now}
 use Rattle.machine.specs.Compute as compute
 use Rattle.walks.specs.declared.rrule_iter.Why.{Why}
 use Rattle.walks.specs.declared.rrule_iter.Held.{Held}
-use Rattle.walks.specs.Walks.{walkedBy}
+use Rattle.walks.specs.Walks.{inState, walkedBy}
 
 -- why a walk has stopped, read back off its outcome
 unfoldable pub whyIn : State → Why
@@ -38,12 +38,12 @@ unfoldable pub nowIn : compute.Walked ℕ → Now ℕ
 nowIn (compute.stopped o) = o .now
 nowIn (compute.through s) = s
 
-unfoldable pub heldIn : Now ℕ → Held
-heldIn s = record { k = s .cursor .k; place = s .cursor .place; number = s .cursor .number; moves = s .made; handed = s .handed }
+unfoldable pub heldIn : State → Now ℕ → Held
+heldIn state s = record { cursor = inState state (s .cursor); moves = s .made; handed = s .handed }
 
 pub read-back : (why : Why) (held : Held) (buffer : List ℕ) →
     let w = walkedBy (record { why = why; held = held }) buffer in
-    (whyOf w ≡ why) × (heldIn (nowIn w) ≡ held) × (nowIn w .buffer ≡ buffer)
+    (whyOf w ≡ why) × (heldIn (held .cursor .state) (nowIn w) ≡ held) × (nowIn w .buffer ≡ buffer)
 unfolding walkedBy whyIn whyBy whyOf nowIn heldIn
 read-back Why.Full held buffer = (refl, refl, refl)
 read-back Why.Until held buffer = (refl, refl, refl)

@@ -10,6 +10,7 @@ use Rattle.machine.specs.declared.Cause.{Cause}
 use Rattle.machine.specs.declared.State.{State}
 use Rattle.machine.specs.declared.Stop.{Stop}
 use Rattle.machine.specs.Given.{above, reaches}
+use Rattle.machine.specs.Cursors.{pass, handOut}
 use Rattle.machine.specs.Compute.{Walked, Walked.stopped, Walked.through, outcome, walk}
 use Rattle.machine.proofs.RunLaws.{walk-full, walk-until, walk-pass, walk-count, walk-hand}
 use Rattle.rule.specs.Run.{countOf}
@@ -26,51 +27,51 @@ tabled-step f n i h =
 
 -- what a call holds when a candidate is passed, and when it is handed out
 abbrev pub passed : Held → Held
-passed h = record { k = h .k; place = h .place + 1; number = h .number; moves = h .moves; handed = h .handed }
+passed h = record { cursor = pass (h .cursor); moves = h .moves; handed = h .handed }
 
 abbrev pub handedOut : Held → Held
-handedOut h = record { k = h .k; place = h .place + 1; number = h .number + 1; moves = h .moves; handed = h .handed + 1 }
+handedOut h = record { cursor = handOut (pass (h .cursor)); moves = h .moves; handed = h .handed + 1 }
 
 -- a walk that stops so
 abbrev pub stops : Why → Held → List ℕ → Walked ℕ
 stops why h buffer = walkedBy (record { why = why; held = h }) buffer
 
 module _ (b : Bounds) (f : ℕ → ℕ) (n : ℕ) (h : Held) (buffer : List ℕ) where
-  pub rest-over : n ≤ h .place → walkFrom b f n h buffer ≡ stops Why.Through h buffer
+  pub rest-over : n ≤ h .cursor .place → walkFrom b f n h buffer ≡ stops Why.Through h buffer
   unfolding walkFrom tabled walk walkedBy
   rest-over o =
-      let s : n - h .place ≡ 0 = omega arith in
+      let s : n - h .cursor .place ≡ 0 = omega arith in
       rw s
 
-  module _ (l : h .place < n) where
+  module _ (l : h .cursor .place < n) where
     pub rest-full : h .handed ≡ length buffer → walkFrom b f n h buffer ≡ stops Why.Full h buffer
     unfolding walkFrom walkedBy
-    rest-full e = rw (tabled-step f n (h .place) l) (walk-full _ _ _ _ _ _ _ _ _ e)
+    rest-full e = rw (tabled-step f n (h .cursor .place) l) (walk-full _ _ _ _ _ _ _ _ _ e)
 
     -- the candidate is the second x, and a slot is free
-    module _ (x : ℕ) (e : x ≡ f (h .place)) (free : h .handed ≡ length buffer → ⊥) where
-      first : walkFrom b f n h buffer ≡ walk (givenBy b) (x ∷ tabled f (h .place + 1) (n - (h .place + 1))) (nowOf State.Running h buffer)
+    module _ (x : ℕ) (e : x ≡ f (h .cursor .place)) (free : h .handed ≡ length buffer → ⊥) where
+      first : walkFrom b f n h buffer ≡ walk (givenBy b) (x ∷ tabled f (h .cursor .place + 1) (n - (h .cursor .place + 1))) (nowOf State.Running h buffer)
       unfolding walkFrom
       first =
-          rw (tabled-step f n (h .place) l)
-          (ap (λ (y : ℕ). walk (givenBy b) (y ∷ tabled f (h .place + 1) (n - (h .place + 1))) (nowOf State.Running h buffer)) (sym e))
+          rw (tabled-step f n (h .cursor .place) l)
+          (ap (λ (y : ℕ). walk (givenBy b) (y ∷ tabled f (h .cursor .place + 1) (n - (h .cursor .place + 1))) (nowOf State.Running h buffer)) (sym e))
 
       pub rest-until : above (boundOf (b .until)) x ≡ true → walkFrom b f n h buffer ≡ stops Why.Until h buffer
       unfolding walkedBy givenBy
-      rest-until u = first ∙ walk-until (givenBy b) x _ (h .k) (h .place) (h .number) (h .moves) (h .handed) buffer free u
+      rest-until u = first ∙ walk-until (givenBy b) x _ (h .cursor .k) (h .cursor .place) (h .cursor .number) (h .moves) (h .handed) buffer free u
 
       module _ (u : above (boundOf (b .until)) x ≡ false) where
         pub rest-pass : x < b .start → walkFrom b f n h buffer ≡ walkFrom b f n (passed h) buffer
         unfolding walkFrom givenBy
-        rest-pass s = first ∙ walk-pass (givenBy b) x _ (h .k) (h .place) (h .number) (h .moves) (h .handed) buffer free u s
+        rest-pass s = first ∙ walk-pass (givenBy b) x _ (h .cursor .k) (h .cursor .place) (h .cursor .number) (h .moves) (h .handed) buffer free u s
 
         module _ (s : b .start ≤ x) where
-          pub rest-count : reaches (countOf (b .count)) (h .number + 1) ≡ true
+          pub rest-count : reaches (countOf (b .count)) (h .cursor .number + 1) ≡ true
               → walkFrom b f n h buffer ≡ stops Why.Count (handedOut h) (set buffer (h .handed) (x - 62135596800))
           unfolding walkedBy givenBy
-          rest-count r = first ∙ walk-count (givenBy b) x _ (h .k) (h .place) (h .number) (h .moves) (h .handed) buffer free u s r
+          rest-count r = first ∙ walk-count (givenBy b) x _ (h .cursor .k) (h .cursor .place) (h .cursor .number) (h .moves) (h .handed) buffer free u s r
 
-          pub rest-hand : reaches (countOf (b .count)) (h .number + 1) ≡ false
+          pub rest-hand : reaches (countOf (b .count)) (h .cursor .number + 1) ≡ false
               → walkFrom b f n h buffer ≡ walkFrom b f n (handedOut h) (set buffer (h .handed) (x - 62135596800))
           unfolding walkFrom givenBy
-          rest-hand r = first ∙ walk-hand (givenBy b) x _ (h .k) (h .place) (h .number) (h .moves) (h .handed) buffer free u s r
+          rest-hand r = first ∙ walk-hand (givenBy b) x _ (h .cursor .k) (h .cursor .place) (h .cursor .number) (h .moves) (h .handed) buffer free u s r

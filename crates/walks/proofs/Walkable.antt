@@ -13,7 +13,7 @@ use Rattle.walks.specs.declared.rrule_iter.Why.{Why}
 use Rattle.walks.specs.declared.rrule_iter.Held.{Held}
 use Rattle.walks.specs.declared.rrule_iter.Bounds.{Bounds}
 use Rattle.walks.specs.declared.rrule_iter.Frame.{Frame}
-use Rattle.walks.specs.Walks.{walkedBy, isFramed, isReady, Framed, Ready, secondAt, secondChosen, walkFrom, isWalkable, daysWalk, placesWalk}
+use Rattle.walks.specs.Walks.{walkedBy, isFramed, isReady, Framed, Ready, secondAt, candidateAt, secondChosen, walkFrom, isWalkable, daysWalk, placesWalk}
 use Rattle.walks.proofs.WalkLaws.{stops}
 
 -- a frame that passes the test
@@ -32,6 +32,11 @@ framed-told f e =
 pub is-framed : (f : Frame) → Framed f → isFramed f ≡ true
 unfolding isFramed
 is-framed f w = rw (le-leb _ _ (w .days), lt-ltb (f .times) 131072 (omega (arith, w .times)), lt-ltb (f .first) 4194304 (omega (arith, w .first)))
+
+-- and of such a frame the candidate of any number is told
+pub candidate-told : (f : Frame) (days lists : List ℕ) (j : ℕ) → Framed f → candidateAt f days lists j ≡ secondAt f days lists j
+unfolding candidateAt
+candidate-told f days lists j w = rw (is-framed f w, candidateAt)
 
 pub ready-told : (b : Bounds) (h : Held) (buffer : List ℕ) → isReady b h (length buffer) ≡ true → Ready b h buffer
 unfolding isReady

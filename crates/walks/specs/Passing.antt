@@ -5,6 +5,7 @@ use mathlib.Core.Bool.{Bool, true, false, not, _&&_}
 use mathlib.Core.List.{List}
 use lib.ListN.{getD}
 use lib.Dec.{eqb, ltb}
+use Rattle.machine.specs.declared.Cursor.{Cursor}
 use Rattle.machine.specs.Given.{above}
 use Rattle.times.specs.TimeSets.{timeAt}
 use Rattle.walks.specs.declared.rrule_iter.Held.{Held}
@@ -29,13 +30,16 @@ passable b f days d (suc n) = elim (isPassed b (lastOf f days d)) [
 ]
 
 -- the same, at another place
+abbrev pub atPlace : Cursor → ℕ → Cursor
+atPlace c place = record { state = c .state; k = c .k; place = place; number = c .number }
+
 abbrev pub heldAt : Held → ℕ → Held
-heldAt h place = record { k = h .k; place = place; number = h .number; moves = h .moves; handed = h .handed }
+heldAt h place = record { cursor = atPlace (h .cursor) place; moves = h .moves; handed = h .handed }
 
 -- What a call holds when those days are passed. None is where the buffer is full, a sum could wrap, or the place is within a day.
 unfoldable pub passedDays : Bool → Frame → Bounds → Held → List ℕ → Held
-passedDays full f b h days = elim (not full && (isFramed f && eqb (h .place % f .times) 0)) [
-  | true ↦ heldAt h (h .place + passable b f days (h .place / f .times) (f .days - h .place / f .times) * f .times)
+passedDays full f b h days = elim (not full && (isFramed f && eqb (h .cursor .place % f .times) 0)) [
+  | true ↦ heldAt h (h .cursor .place + passable b f days (h .cursor .place / f .times) (f .days - h .cursor .place / f .times) * f .times)
   | false ↦ h
 ]
 

@@ -10,6 +10,7 @@ use Rattle.calendar.specs.Calendar.{if_then_else_}
 use Rattle.machine.specs.declared.Cause.{Cause}
 use Rattle.machine.specs.declared.State.{State}
 use Rattle.machine.specs.declared.Stop.{Stop}
+use Rattle.machine.specs.declared.Cursor.{Cursor}
 use Rattle.machine.specs.Given.{Bound, Bound.absent, Bound.present, Move, Move.NoTick, Given}
 use Rattle.machine.specs.Run.{Now}
 use Rattle.machine.specs.Compute as compute
@@ -43,10 +44,14 @@ givenBy b = record {
   shown = instant;
 }
 
+-- a cursor in another state
+abbrev pub inState : State → Cursor → Cursor
+inState state c = record { state = state; k = c .k; place = c .place; number = c .number }
+
 -- what a call holds, with its cursor's state and the buffer
 abbrev pub nowOf : State → Held → List ℕ → Now ℕ
 nowOf state h buffer = record {
-  cursor = record { state = state; k = h .k; place = h .place; number = h .number };
+  cursor = inState state (h .cursor);
   made = h .moves;
   handed = h .handed;
   buffer = buffer;
@@ -75,14 +80,14 @@ pub record Framed (f : Frame) : Type 0 where
 pub record Ready (b : Bounds) (h : Held) (buffer : List ℕ) : Type 0 where
   pub start : 62135596800 ≤ b .start
   pub handed : h .handed ≤ length buffer
-  pub number : h .number < 2 ^ 63
+  pub number : h .cursor .number < 2 ^ 63
 
 -- The same as tests. That of a frame is wider, and cheap: up to the next powers of two no sum wraps either.
 unfoldable pub isFramed : Frame → Bool
 isFramed f = leb (f .days) 373 && (ltb (f .times) 131072 && ltb (f .first) 4194304)
 
 unfoldable pub isReady : Bounds → Held → (room : ℕ) → Bool
-isReady b h room = leb 62135596800 (b .start) && (leb (h .handed) room && ltb (h .number) 9223372036854775808)
+isReady b h room = leb 62135596800 (b .start) && (leb (h .handed) room && ltb (h .cursor .number) 9223372036854775808)
 
 -- time number t of day number d, as a second
 unfoldable pub secondOn : Frame → (days lists : List ℕ) → (d t : ℕ) → ℕ
@@ -92,6 +97,11 @@ secondOn f days lists d t = (f .first + getD days d 0) * 86400 + timeAt (f .freq
 unfoldable pub secondAt : Frame → (days lists : List ℕ) → ℕ → ℕ
 unfolding secondOn
 secondAt f days lists j = secondOn f days lists (j / f .times) (j % f .times)
+
+-- the same of any frame: 0 where a sum could wrap
+unfoldable pub candidateAt : Frame → (days lists : List ℕ) → ℕ → ℕ
+unfolding isFramed secondAt
+candidateAt f days lists j = if isFramed f then secondAt f days lists j else 0
 
 -- kept number i, where positions choose: the candidate at its place
 unfoldable pub secondChosen : Frame → (days lists places : List ℕ) → ℕ → ℕ
@@ -105,7 +115,7 @@ tabled f i (suc n) = f i ∷ tabled f (i + 1) n
 
 -- the walk from the place on, over n candidates of which number j is f j
 unfoldable pub walkFrom : Bounds → (ℕ → ℕ) → ℕ → Held → List ℕ → compute.Walked ℕ
-walkFrom b f n h buffer = compute.walk (givenBy b) (tabled f (h .place) (n - h .place)) (nowOf State.Running h buffer)
+walkFrom b f n h buffer = compute.walk (givenBy b) (tabled f (h .cursor .place) (n - h .cursor .place)) (nowOf State.Running h buffer)
 
 -- whether a walk may be: over such a frame, by a call that is ready
 abbrev pub isWalkable : Frame → Bounds → Held → List ℕ → Bool
@@ -124,11 +134,11 @@ placesWalk f b h n places days lists buffer =
 -- What a walk from h over n candidates keeps to: the period and the moves stay, and so does the buffer's length; as many are numbered as handed
 -- out, and none without room; the place rises, and stays among the n candidates.
 pub record Keeps (n : ℕ) (h : Held) (buffer : List ℕ) (r : Held) (last : List ℕ) : Type 0 where
-  pub k : r .k ≡ h .k
+  pub k : r .cursor .k ≡ h .cursor .k
   pub moves : r .moves ≡ h .moves
   pub long : length last ≡ length buffer
   pub more : h .handed ≤ r .handed
   pub room : r .handed ≤ length last
-  pub number : r .number + h .handed ≡ h .number + r .handed
-  pub on : h .place ≤ r .place
-  pub within : h .place ≤ n → r .place ≤ n
+  pub number : r .cursor .number + h .handed ≡ h .cursor .number + r .handed
+  pub on : h .cursor .place ≤ r .cursor .place
+  pub within : h .cursor .place ≤ n → r .cursor .place ≤ n

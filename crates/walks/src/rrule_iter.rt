@@ -1,4 +1,5 @@
 // The walk over the candidates of a period: each is passed, and handed out if it is not before the start.
+use machine::Cursor;
 use rule::rrule::Count;
 use rule::rrule::Frequency;
 use rule::rrule::Until;
@@ -9,7 +10,7 @@ ghost use Prim.Native.Nat.{_+_, _*_, _/_, _≤_, _<_, _^_};
 ghost use lib.ListN.{getD};
 ghost use Rattle.machine.specs.Given.{above, reaches};
 ghost use Rattle.rule.specs.Run.{countOf};
-ghost use Rattle.walks.specs.Walks.{boundOf, walkedBy, Bytes, isFramed, isReady, secondOn, secondAt, daysWalk, placesWalk};
+ghost use Rattle.walks.specs.Walks.{boundOf, walkedBy, Bytes, isFramed, isReady, secondOn, secondAt, candidateAt, daysWalk, placesWalk};
 ghost use Rattle.walks.specs.Passing.{isPassed, passedDays};
 
 // Why a walk has stopped; Through where no candidate remains.
@@ -20,12 +21,9 @@ pub enum Why {
     Through,
 }
 
-// What a call holds between two turns: the period k, the place in it, the number handed out in all, the moves made and the count handed
-// out in this call.
+// What a call holds between two turns: the cursor, the moves made and the count handed out in this call.
 pub struct Held {
-    pub k: u64,
-    pub place: u32,
-    pub number: u64,
+    pub cursor: Cursor,
     pub moves: u32,
     pub handed: usize,
 }
@@ -140,11 +138,22 @@ fn is_framed(frame: Frame) -> bool
     (frame.days <= 373) & ((frame.times < 131072) & (frame.first < 4194304))
 }
 
+// The candidate of this number, as a second; 0 where a sum could wrap.
+pub fn candidate_at(frame: Frame, days: &[u16; 373], lists: &[u8; 144], number: u32) -> u64
+    ensures { λ r. ⌜ r ≡ candidateAt frame (now (days .entry)) (now (lists .entry)) number ⌝ }
+{
+    if !is_framed(frame) {
+        return 0;
+    }
+    second_at(frame, days, lists, number)
+}
+
 // Whether a call is ready to walk, with so much room in the buffer.
 fn is_ready(bounds: Bounds, held: Held, room: usize) -> bool
     ensures { λ r. ⌜ r ≡ isReady bounds held room ⌝ }
 {
-    (62135596800 <= bounds.start) & ((held.handed <= room) & (held.number < 9223372036854775808))
+    (62135596800 <= bounds.start)
+        & ((held.handed <= room) & (held.cursor.number < 9223372036854775808))
 }
 
 // The walk over the days and their times, from the place on: each candidate is passed, and handed out if it is not before the start. A full
@@ -157,7 +166,8 @@ pub fn walk_days(
     lists: &[u8; 144],
     buffer: &mut [u64],
 ) -> Walked
-    ensures { λ r. ⌜ walkedBy r (now (buffer .exit)) ≡ daysWalk frame bounds held (now (days .entry)) (now (lists .entry)) (now (buffer .entry)) ⌝ }
+    ensures walked { λ r. ⌜ walkedBy r (now (buffer .exit)) ≡ daysWalk frame bounds held (now (days .entry)) (now (lists .entry)) (now (buffer .entry)) ⌝ }
+    ensures state { λ r. ⌜ r .held .cursor .state ≡ held .cursor .state ⌝ }
 {
     let mut why = Why::Through;
     let mut at = held;
@@ -167,8 +177,8 @@ pub fn walk_days(
     if frame.times == 0 {
         return Walked { why, held: at };
     }
-    let first_day = quotient(at.place, frame.times);
-    let mut time = at.place - first_day * frame.times;
+    let first_day = quotient(at.cursor.place, frame.times);
+    let mut time = at.cursor.place - first_day * frame.times;
     'days: for day in first_day as usize..frame.days {
         while time < frame.times {
             let slot = at.handed;
@@ -181,15 +191,17 @@ pub fn walk_days(
                 why = Why::Until;
                 break 'days;
             }
-            at.place += 1;
+            let place = at.cursor.place + 1;
+            at.cursor.place = place;
             time += 1;
             if second < bounds.start {
                 continue;
             }
             buffer[slot] = second - 62135596800;
-            at.number += 1;
+            let number = at.cursor.number + 1;
+            at.cursor.number = number;
             at.handed += 1;
-            if is_reached(bounds, at.number) {
+            if is_reached(bounds, at.cursor.number) {
                 why = Why::Count;
                 break 'days;
             }
@@ -221,8 +233,8 @@ pub fn pass_days(full: bool, frame: Frame, bounds: Bounds, held: Held, days: &[u
     if !is_framed(frame) {
         return at;
     }
-    let first_day = quotient(held.place, frame.times);
-    if first_day * frame.times != held.place {
+    let first_day = quotient(held.cursor.place, frame.times);
+    if first_day * frame.times != held.cursor.place {
         return at;
     }
     for day in first_day as usize..frame.days {
@@ -230,7 +242,8 @@ pub fn pass_days(full: bool, frame: Frame, bounds: Bounds, held: Held, days: &[u
         if !is_passed(bounds, midnight + 86399) {
             break;
         }
-        at.place += frame.times;
+        let place = at.cursor.place + frame.times;
+        at.cursor.place = place;
     }
     at
 }
@@ -246,15 +259,16 @@ pub fn walk_places(
     lists: &[u8; 144],
     buffer: &mut [u64],
 ) -> Walked
-    ensures { λ r. ⌜ walkedBy r (now (buffer .exit))
+    ensures walked { λ r. ⌜ walkedBy r (now (buffer .exit))
         ≡ placesWalk frame bounds held kept (now (places .entry)) (now (days .entry)) (now (lists .entry)) (now (buffer .entry)) ⌝ }
+    ensures state { λ r. ⌜ r .held .cursor .state ≡ held .cursor .state ⌝ }
 {
     let mut why = Why::Through;
     let mut at = held;
     if !((kept <= 732) & (is_framed(frame) & is_ready(bounds, held, buffer.len()))) {
         return Walked { why, held: at };
     }
-    for i in held.place as usize..kept {
+    for i in held.cursor.place as usize..kept {
         let slot = at.handed;
         if slot == buffer.len() {
             why = Why::Full;
@@ -265,14 +279,16 @@ pub fn walk_places(
             why = Why::Until;
             break;
         }
-        at.place += 1;
+        let place = at.cursor.place + 1;
+        at.cursor.place = place;
         if second < bounds.start {
             continue;
         }
         buffer[slot] = second - 62135596800;
-        at.number += 1;
+        let number = at.cursor.number + 1;
+        at.cursor.number = number;
         at.handed += 1;
-        if is_reached(bounds, at.number) {
+        if is_reached(bounds, at.cursor.number) {
             why = Why::Count;
             break;
         }

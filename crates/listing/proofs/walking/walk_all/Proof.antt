@@ -20,7 +20,7 @@ returns c =
     let s = c .before .before .before .before .before .before .before .before in
     let a = s .args in
     let p = c .before .before .before .before .pass-days in
-    c .before .before .walk-days .ensures
+    c .before .before .walk-days .ensures .0
     ∙ passed-same (a .frame) (a .bounds) (a .held) (a .days .now) (a .lists .now) (a .buffer .now) (p .result) (s .pre .0) (s .pre .1) (s .pre .2) (p .ensures)
 
 pub walk-all-spec : {M : Type 1} → statement M

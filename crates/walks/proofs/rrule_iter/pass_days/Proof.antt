@@ -20,8 +20,8 @@ use Rattle.walks.proofs.rrule_iter.pass_days.Tie as tie
 
 abbrev Inv-loop : tie.InvT-loop
 Inv-loop full frame bounds days at₀ first-day day₀ day-end at day =
-    (at ≡ heldAt at₀ (at .place)) × (at .place ≡ day * frame .times)
-    × (Leads bounds frame days (frame .days) day₀ (at₀ .place) ≡ Leads bounds frame days (frame .days) day (at .place))
+    (at ≡ heldAt at₀ (at .cursor .place)) × (at .cursor .place ≡ day * frame .times)
+    × (Leads bounds frame days (frame .days) day₀ (at₀ .cursor .place) ≡ Leads bounds frame days (frame .days) day (at .cursor .place))
 
 abbrev μ-loop : tie.MeasureT-loop
 μ-loop full frame bounds days at₀ first-day day₀ day-end at day = frame .days - day
@@ -46,7 +46,7 @@ passes c =
 -- where the loop has come to is where the days lead
 passed-so : (c : tie.At-loop Inv-loop μ-loop) →
     let a = c .before .before .before .before .before .before .before .before .args in
-    Leads (a .bounds) (a .frame) (a .days .now) (a .frame .days) (c .loop .day) (c .loop .at .place) ≡ c .loop .at .place
+    Leads (a .bounds) (a .frame) (a .days .now) (a .frame .days) (c .loop .day) (c .loop .at .cursor .place) ≡ c .loop .at .cursor .place
     → c .loop .at ≡ passedDays (a .full) (a .frame) (a .bounds) (a .held) (a .days .now)
 passed-so c e =
     let q = c .before .before .before .before in
@@ -72,7 +72,7 @@ quotient-requires c κs = search needs
 mul-if3 : tie.Need-mul-if3 Inv-loop μ-loop
 mul-if3 c =
     let a = c .before .before .before .before .before .args in
-    rw (c .before .quotient .ensures) (omega (arith, div-mul-le-self (a .held .place) (a .frame .times)))
+    rw (c .before .quotient .ensures) (omega (arith, div-mul-le-self (a .held .cursor .place) (a .frame .times)))
 
 returns-3 : tie.Need-returns-3 Inv-loop μ-loop
 returns-3 c =
@@ -96,8 +96,8 @@ add-is-passed c = search needs
 is-passed-requires : tie.Need-is-passed-requires Inv-loop μ-loop
 is-passed-requires c κs = search needs
 
-add-at : tie.Need-add-at Inv-loop μ-loop
-add-at c =
+add-place : tie.Need-add-place Inv-loop μ-loop
+add-place c =
     let i = c .before .before .before .before .before .before in
     let l = i .before in
     let p = small (l .before .before .before .before .before) in
@@ -111,10 +111,10 @@ loop-less c = search needs
 
 loop-again : tie.Need-loop-again Inv-loop μ-loop
 loop-again c =
-    let e = c .before .before in
+    let e = c .before .before .before in
     let l = e .before .before .before .before .before in
     let a = l .before .before .before .before .before .before .before .before .args in (
-      ap (λ (h : Held). heldAt h (l .loop .at .place + a .frame .times)) (l .loop .inv .0),
+      ap (λ (h : Held). heldAt h (l .loop .at .cursor .place + a .frame .times)) (l .loop .inv .0),
       rw (next-day (l .loop .day) (a .frame .times), l .loop .inv .1),
       l .loop .inv .2 ∙ leads-on _ _ _ _ _ _ (e .before .before .before .before .loop-test .taken) (passes (e .before) ∙ not-false _ (e .if4 .left)),
     )
@@ -146,7 +146,7 @@ pass-days-spec =
     midnight-of-requires
     add-is-passed
     is-passed-requires
-    add-at
+    add-place
     add-day
     loop-less
     loop-again

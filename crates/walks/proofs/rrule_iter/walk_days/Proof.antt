@@ -19,14 +19,15 @@ use Rattle.walks.proofs.Walkable.{Small, walkable-by, walkable-told, da
 use Rattle.walks.proofs.rrule_iter.walk_days.Statement.{statement}
 use Rattle.walks.proofs.rrule_iter.walk_days.Tie as tie
 
--- as many numbered as handed out since, and room for what is handed out
+-- as many numbered as handed out since, room for what is handed out, and the cursor's state as it was
 abbrev Counted : Held → Held → List ℕ → List ℕ → Type 0
 Counted h₀ h buffer₀ buffer =
-    (h₀ .handed ≤ h .handed) × (h .number + h₀ .handed ≡ h₀ .number + h .handed) × (h .handed ≤ length buffer) × (length buffer ≡ length buffer₀)
+    (h₀ .handed ≤ h .handed) × (h .cursor .number + h₀ .handed ≡ h₀ .cursor .number + h .handed) × (h .handed ≤ length buffer) × (length buffer ≡ length buffer₀)
+    × (h .cursor .state ≡ h₀ .cursor .state)
 
 abbrev Inv-loop : tie.InvT-loop
 Inv-loop frame bounds days lists buffer₀ why₀ at₀ first-day time₀ day day-end buffer why at time =
-    (why ≡ Why.Through) × (time ≤ frame .times) × (at .place + time₀ ≡ at₀ .place + time) × Counted at₀ at buffer₀ buffer
+    (why ≡ Why.Through) × (time ≤ frame .times) × (at .cursor .place + time₀ ≡ at₀ .cursor .place + time) × Counted at₀ at buffer₀ buffer
     × (walkFrom bounds (secondAt frame days lists) (frame .days * frame .times) at₀ buffer₀
     ≡ walkFrom bounds (secondAt frame days lists) (frame .days * frame .times) at buffer)
 
@@ -35,7 +36,7 @@ abbrev μ-loop : tie.MeasureT-loop
 
 abbrev Inv-days : tie.InvT-days
 Inv-days frame bounds days lists buffer₀ why₀ at₀ first-day time₀ day₀ day-end buffer why at time day =
-    (why ≡ Why.Through) × (time < frame .times) × (at .place ≡ day * frame .times + time) × Counted at₀ at buffer₀ buffer
+    (why ≡ Why.Through) × (time < frame .times) × (at .cursor .place ≡ day * frame .times + time) × Counted at₀ at buffer₀ buffer
     × (walkFrom bounds (secondAt frame days lists) (frame .days * frame .times) at₀ buffer₀
     ≡ walkFrom bounds (secondAt frame days lists) (frame .days * frame .times) at buffer)
 
@@ -75,17 +76,23 @@ whole : (c : tie.At-loop Inv-loop μ-loop Inv-days μ-days) →
     ≡ walkFrom (a .bounds) (secondAt (a .frame) (a .days .now) (a .lists .now)) (a .frame .days * a .frame .times) (c .loop .at) (c .loop .buffer)
 whole c = begun (c .before .before .before .before .before .before .before .before) ∙ c .before .before .days .inv .4 ∙ c .loop .inv .4
 
+-- and the cursor's state is as it was
+state-kept : (c : tie.At-loop Inv-loop μ-loop Inv-days μ-days) →
+    c .loop .at .cursor .state
+    ≡ c .before .before .before .before .before .before .before .before .before .before .before .before .args .held .cursor .state
+state-kept c = c .loop .inv .3 .4 ∙ c .before .before .days .inv .3 .4
+
 -- the place, by day and time; a candidate is there
 there : (c : tie.Then3 Inv-loop μ-loop Inv-days μ-days) →
     let l = c .before .before in
     let d = l .before .before in
-    l .loop .at .place ≡ d .days .day * d .before .before .before .before .before .before .before .before .before .before .args .frame .times + l .loop .time
+    l .loop .at .cursor .place ≡ d .days .day * d .before .before .before .before .before .before .before .before .before .before .args .frame .times + l .loop .time
 there c = let l = c .before .before in let d = l .before .before in omega (arith, l .loop .inv .2, d .days .inv .2)
 
 within : (c : tie.Then3 Inv-loop μ-loop Inv-days μ-days) →
     let l = c .before .before in
     let a = l .before .before .before .before .before .before .before .before .before .before .before .before .args in
-    l .loop .at .place < a .frame .days * a .frame .times
+    l .loop .at .cursor .place < a .frame .days * a .frame .times
 within c =
     let l = c .before .before in
     rw (there c) (within-days _ _ _ _ (l .before .days-test .taken) (c .if3 .taken))
@@ -100,7 +107,7 @@ free c e = omega (arith, e, c .if4 .left)
 in-hand : (c : tie.After-second-on Inv-loop μ-loop Inv-days μ-days) →
     let l = c .before .before .before .before in
     let a = l .before .before .before .before .before .before .before .before .before .before .before .before .args in
-    c .second-on .result ≡ secondAt (a .frame) (a .days .now) (a .lists .now) (l .loop .at .place)
+    c .second-on .result ≡ secondAt (a .frame) (a .days .now) (a .lists .now) (l .loop .at .cursor .place)
 in-hand c =
     let t = c .before .before in
     c .second-on .ensures ∙ second-there _ _ _ _ _ _ (there t) (t .if3 .taken)
@@ -119,7 +126,7 @@ room c =
     let d = c .before .before in
     rw (c .loop .inv .3 .3 ∙ d .days .inv .3 .3) (d .before .before .before .before .before .before .before .before .before .before .good .1 .1 .1 .1 .1 .0 .1)
 
-number-small : (c : tie.At-loop Inv-loop μ-loop Inv-days μ-days) → c .loop .at .number + 1 < 2 ^ 64
+number-small : (c : tie.At-loop Inv-loop μ-loop Inv-days μ-days) → c .loop .at .cursor .number + 1 < 2 ^ 64
 number-small c =
     let d = c .before .before in
     let p = ready (d .before .before .before .before .before .before) .number in
@@ -136,15 +143,17 @@ is-ready-requires c κs = search needs
 
 returns : tie.Need-returns Inv-loop μ-loop Inv-days μ-days
 returns c =
-    let a = c .before .before .before .before .args in
-    days-left _ _ _ _ _ _
-    (walkable-by (a .frame) (a .bounds) (a .held) (a .buffer .now) _ _ false
-    (c .before .before .is-framed .ensures) (c .before .is-ready .ensures) (not-true _ (c .if1 .taken)))
+    let a = c .before .before .before .before .args in (
+      days-left _ _ _ _ _ _
+          (walkable-by (a .frame) (a .bounds) (a .held) (a .buffer .now) _ _ false
+          (c .before .before .is-framed .ensures) (c .before .is-ready .ensures) (not-true _ (c .if1 .taken))),
+      refl,
+    )
 
 returns-2 : tie.Need-returns-2 Inv-loop μ-loop Inv-days μ-days
 returns-2 c =
     let a = c .before .before .before .before .before .before .args in
-    sym (begun (c .before .before) ∙ rest-over _ _ _ _ _ (no-times _ _ (a .held .place) (c .if2 .taken)))
+    (sym (begun (c .before .before) ∙ rest-over _ _ _ _ _ (no-times _ _ (a .held .cursor .place) (c .if2 .taken))), refl)
 
 quotient-requires : tie.Need-quotient-requires Inv-loop μ-loop Inv-days μ-days
 quotient-requires c κs = search needs
@@ -153,7 +162,7 @@ mul-time : tie.Need-mul-time Inv-loop μ-loop Inv-days μ-days
 mul-time c =
     let a = c .before .before .before .before .before .before .before .before .args in
     let g = c .before .before .before .before .before .before .before .before .good .1 .1 .0 in
-    rw (c .before .quotient .ensures) (omega (arith, g, div-mul-le-self (a .held .place) (a .frame .times)))
+    rw (c .before .quotient .ensures) (omega (arith, g, div-mul-le-self (a .held .cursor .place) (a .frame .times)))
 
 sub-time : tie.Need-sub-time Inv-loop μ-loop Inv-days μ-days
 sub-time c = rw (c .before .before .quotient .ensures) (div-mul-le-self _ _)
@@ -166,16 +175,16 @@ days-holds c =
     let q = c .before .before in
     let a = q .before .before .before .before .before .before .before .args in (
       refl,
-      rw (q .quotient .ensures) (time-left (a .frame .times) (a .held .place) (q .before .if2 .left)),
-      days-and-left (a .frame .times) (a .held .place) (q .quotient .result) (q .quotient .ensures),
-      (search needs, search needs, ready (q .before .before .before) .handed, refl),
+      rw (q .quotient .ensures) (time-left (a .frame .times) (a .held .cursor .place) (q .before .if2 .left)),
+      days-and-left (a .frame .times) (a .held .cursor .place) (q .quotient .result) (q .quotient .ensures),
+      (search needs, search needs, ready (q .before .before .before) .handed, refl, refl),
       refl,
     )
 
 loop-holds : tie.Need-loop-holds Inv-loop μ-loop Inv-days μ-days
 loop-holds c =
     let d = c .before in
-    (d .days .inv .0, search needs, refl, (search needs, refl, d .days .inv .3 .2, refl), refl)
+    (d .days .inv .0, search needs, refl, (search needs, refl, d .days .inv .3 .2, refl, refl), refl)
 
 second-on-requires : tie.Need-second-on-requires Inv-loop μ-loop Inv-days μ-days
 second-on-requires c κs = small (c .before .before .before .before .before .before .before .before .before .before .before) .first
@@ -183,11 +192,11 @@ second-on-requires c κs = small (c .before .before .before .before .before .bef
 is-late-requires : tie.Need-is-late-requires Inv-loop μ-loop Inv-days μ-days
 is-late-requires c κs = search needs
 
-add-at : tie.Need-add-at Inv-loop μ-loop Inv-days μ-days
-add-at c =
+add-place : tie.Need-add-place Inv-loop μ-loop Inv-days μ-days
+add-place c =
     let t = c .before .before .before .before .before in
     let p = small (t .before .before .before .before .before .before .before .before .before .before) in
-    let h : t .before .before .loop .at .place < 2 ^ 31 = in-a-year _ _ _ (p .days) (p .times) (within t) in
+    let h : t .before .before .loop .at .cursor .place < 2 ^ 31 = in-a-year _ _ _ (p .days) (p .times) (within t) in
     record { fits = omega (arith, h) }
 
 add-time : tie.Need-add-time Inv-loop μ-loop Inv-days μ-days
@@ -198,7 +207,7 @@ loop-less c = search needs
 
 loop-again : tie.Need-loop-again Inv-loop μ-loop Inv-days μ-days
 loop-again c =
-    let k = c .before .before .before .before .before in
+    let k = c .before .before .before .before .before .before in
     let t = k .before .before in
     let l = t .before .before in
     let a = l .before .before .before .before .before .before .before .before .before .before .before .before .args in
@@ -206,28 +215,28 @@ loop-again c =
       l .loop .inv .0,
       omega arith,
       omega arith,
-      (omega arith, omega arith, omega arith, l .loop .inv .3 .3),
+      (omega arith, omega arith, omega arith, l .loop .inv .3 .3, l .loop .inv .3 .4),
       l .loop .inv .4
           ∙ rest-pass _ _ _ _ _ (within t) _ (in-hand k) (free (k .before))
-          (on-time (c .before .before .before)) s,
+          (on-time (c .before .before .before .before)) s,
     )
 
 sub-buffer : tie.Need-sub-buffer Inv-loop μ-loop Inv-days μ-days
 sub-buffer c =
-    let l = c .before .before .before .before .before .before .before .before .before in
+    let l = c .before .before .before .before .before .before .before .before .before .before in
     omega (arith, c .if6 .left, ready (l .before .before .before .before .before .before .before .before) .start)
 
 mul-buffer : tie.Need-mul-buffer Inv-loop μ-loop Inv-days μ-days
-mul-buffer c = omega (arith, room (c .before .before .before .before .before .before .before .before .before))
+mul-buffer c = omega (arith, room (c .before .before .before .before .before .before .before .before .before .before))
 
 slice-write-buffer : tie.Need-slice-write-buffer Inv-loop μ-loop Inv-days μ-days
 slice-write-buffer c = search needs
 
-add-at-2 : tie.Need-add-at-2 Inv-loop μ-loop Inv-days μ-days
-add-at-2 c = record { fits = omega (arith, number-small (c .before .before .before .before .before .before .before .before .before .before)) }
+add-number : tie.Need-add-number Inv-loop μ-loop Inv-days μ-days
+add-number c = record { fits = omega (arith, number-small (c .before .before .before .before .before .before .before .before .before .before .before)) }
 
-add-at-3 : tie.Need-add-at-3 Inv-loop μ-loop Inv-days μ-days
-add-at-3 c = record { fits = omega (arith, handed-small (c .before .before .before .before .before .before .before .before .before .before .before)) }
+add-at : tie.Need-add-at Inv-loop μ-loop Inv-days μ-days
+add-at c = record { fits = omega (arith, handed-small (c .before .before .before .before .before .before .before .before .before .before .before .before .before)) }
 
 is-reached-requires : tie.Need-is-reached-requires Inv-loop μ-loop Inv-days μ-days
 is-reached-requires c κs = search needs
@@ -237,17 +246,17 @@ loop-less-2 c = search needs
 
 loop-again-2 : tie.Need-loop-again-2 Inv-loop μ-loop Inv-days μ-days
 loop-again-2 c =
-    let e = c .before .before .before .before in
-    let k = e .before .before .before .before .before in
+    let e = c .before .before .before .before .before in
+    let k = e .before .before .before .before .before .before in
     let t = k .before .before in
     let l = t .before .before in (
       l .loop .inv .0,
       omega arith,
       omega arith,
-      (omega arith, omega arith, simp length-set (omega arith), simp length-set (l .loop .inv .3 .3)),
+      (omega arith, omega arith, simp length-set (omega arith), simp length-set (l .loop .inv .3 .3), l .loop .inv .3 .4),
       l .loop .inv .4
           ∙ rest-hand _ _ _ _ _ (within t) _ (in-hand k) (free (k .before))
-          (on-time (e .before .before .before)) (e .if6 .left)
+          (on-time (e .before .before .before .before)) (e .if6 .left)
           (sym (c .before .is-reached .ensures) ∙ c .if7 .left),
     )
 
@@ -270,6 +279,7 @@ days-again c =
         omega (arith, l .loop .inv .3 .1, d .days .inv .3 .1),
         l .loop .inv .3 .2,
         l .loop .inv .3 .3 ∙ d .days .inv .3 .3,
+        l .loop .inv .3 .4 ∙ d .days .inv .3 .4,
       ),
       d .days .inv .4 ∙ l .loop .inv .4,
     )
@@ -279,12 +289,14 @@ same-length c = search needs
 
 returns-3 : tie.Need-returns-3 Inv-loop μ-loop Inv-days μ-days
 returns-3 c =
-    let d = c .before in
-    sym
-    (begun (d .before .before .before .before .before .before)
-    ∙ d .days .inv .4
-    ∙ rest-over _ _ _ _ _ (rw (d .days .inv .2) (past-days _ _ _ _ (c .days-test .left)))
-    ∙ ap (λ (w : Why). stops w (d .days .at) (d .days .buffer)) (sym (d .days .inv .0)))
+    let d = c .before in (
+      sym
+          (begun (d .before .before .before .before .before .before)
+          ∙ d .days .inv .4
+          ∙ rest-over _ _ _ _ _ (rw (d .days .inv .2) (past-days _ _ _ _ (c .days-test .left)))
+          ∙ ap (λ (w : Why). stops w (d .days .at) (d .days .buffer)) (sym (d .days .inv .0))),
+      d .days .inv .3 .4,
+    )
 
 same-length-2 : tie.Need-same-length-2 Inv-loop μ-loop Inv-days μ-days
 same-length-2 c = search needs
@@ -294,7 +306,7 @@ returns-4 c =
     let t = c .before in
     let l = t .before .before in
     let e : l .loop .at .handed ≡ length (l .loop .buffer) = omega (arith, c .if4 .taken) in
-    sym (whole l ∙ rest-full _ _ _ _ _ (within t) e)
+    (sym (whole l ∙ rest-full _ _ _ _ _ (within t) e), state-kept l)
 
 same-length-3 : tie.Need-same-length-3 Inv-loop μ-loop Inv-days μ-days
 same-length-3 c = search needs
@@ -304,24 +316,26 @@ returns-5 c =
     let k = c .before .before in
     let t = k .before .before in
     let l = t .before .before in
-    sym (whole l ∙ rest-until _ _ _ _ _ (within t) _ (in-hand k) (free (k .before)) (sym (c .before .is-late .ensures) ∙ c .if5 .taken))
+    (sym (whole l ∙ rest-until _ _ _ _ _ (within t) _ (in-hand k) (free (k .before)) (sym (c .before .is-late .ensures) ∙ c .if5 .taken)), state-kept l)
 
 same-length-4 : tie.Need-same-length-4 Inv-loop μ-loop Inv-days μ-days
 same-length-4 c =
-    let l = c .before .before .before .before .before .before .before .before .before .before .before .before .before in
+    let l = c .before .before .before .before .before .before .before .before .before .before .before .before .before .before .before in
     simp length-set (l .loop .inv .3 .3 ∙ l .before .before .days .inv .3 .3)
 
 returns-6 : tie.Need-returns-6 Inv-loop μ-loop Inv-days μ-days
 returns-6 c =
-    let e = c .before .before .before .before in
-    let k = e .before .before .before .before .before in
+    let e = c .before .before .before .before .before in
+    let k = e .before .before .before .before .before .before in
     let t = k .before .before in
-    let l = t .before .before in
-    sym
-    (whole l
-    ∙ rest-count _ _ _ _ _ (within t) _ (in-hand k) (free (k .before))
-    (on-time (e .before .before .before)) (e .if6 .left)
-    (sym (c .before .is-reached .ensures) ∙ c .if7 .taken))
+    let l = t .before .before in (
+      sym
+          (whole l
+          ∙ rest-count _ _ _ _ _ (within t) _ (in-hand k) (free (k .before))
+          (on-time (e .before .before .before .before)) (e .if6 .left)
+          (sym (c .before .is-reached .ensures) ∙ c .if7 .taken)),
+      state-kept l,
+    )
 
 pub walk-days-spec : {M : Type 1} → statement M
 walk-days-spec =
@@ -343,15 +357,15 @@ walk-days-spec =
     loop-holds
     second-on-requires
     is-late-requires
-    add-at
+    add-place
     add-time
     loop-less
     loop-again
     sub-buffer
     mul-buffer
     slice-write-buffer
-    add-at-2
-    add-at-3
+    add-number
+    add-at
     is-reached-requires
     loop-less-2
     loop-again-2

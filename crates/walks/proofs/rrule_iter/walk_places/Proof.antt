@@ -21,9 +21,10 @@ use Rattle.walks.proofs.rrule_iter.walk_places.Tie as tie
 
 abbrev Inv-loop : tie.InvT-loop
 Inv-loop frame bounds kept places days lists buffer₀ why₀ at₀ i₀ buffer why at i =
-    (why ≡ Why.Through) × (at .place ≡ i) × (at₀ .handed ≤ at .handed) × (at .number + at₀ .handed ≡ at₀ .number + at .handed)
+    (why ≡ Why.Through) × (at .cursor .place ≡ i) × (at₀ .handed ≤ at .handed) × (at .cursor .number + at₀ .handed ≡ at₀ .cursor .number + at .handed)
     × (at .handed ≤ length buffer) × (length buffer ≡ length buffer₀)
     × (walkFrom bounds (secondChosen frame days lists places) kept at₀ buffer₀ ≡ walkFrom bounds (secondChosen frame days lists places) kept at buffer)
+    × (at .cursor .state ≡ at₀ .cursor .state)
 
 abbrev μ-loop : tie.MeasureT-loop
 μ-loop frame bounds kept places days lists buffer₀ why₀ at₀ i₀ buffer why at i = kept - i
@@ -67,7 +68,7 @@ free c e = omega (arith, e, c .if2 .left)
 in-hand : (c : tie.After-second-at Inv-loop μ-loop) →
     let l = c .before .before .before .before in
     let a = l .before .before .before .before .before .before .args in
-    c .second-at .result ≡ secondChosen (a .frame) (a .days .now) (a .lists .now) (a .places .now) (l .loop .at .place)
+    c .second-at .result ≡ secondChosen (a .frame) (a .days .now) (a .lists .now) (a .places .now) (l .loop .at .cursor .place)
 in-hand c =
     let l = c .before .before .before .before in
     second-chosen _ _ _ _ _ (l .loop .i) _ (l .loop .inv .1) (c .second-at .ensures)
@@ -82,10 +83,10 @@ on-time c = sym (c .before .is-late .ensures) ∙ c .if3 .left
 room : (c : tie.At-loop Inv-loop μ-loop) → length (c .loop .buffer) * 8 < 2 ^ 63
 room c = rw (c .loop .inv .5) (c .before .before .before .before .before .before .good .1 .1 .1 .1 .1 .1 .1 .0 .1)
 
-number-small : (c : tie.At-loop Inv-loop μ-loop) → c .loop .at .number + 1 < 2 ^ 64
+number-small : (c : tie.At-loop Inv-loop μ-loop) → c .loop .at .cursor .number + 1 < 2 ^ 64
 number-small c =
     let r : length (c .loop .buffer) * 8 < 2 ^ 63 = room c in
-    let p : c .before .before .before .before .before .before .args .held .number < 2 ^ 63 = ready (c .before .before) .number in
+    let p : c .before .before .before .before .before .before .args .held .cursor .number < 2 ^ 63 = ready (c .before .before) .number in
     omega (arith, c .loop .inv .2, c .loop .inv .3, c .loop .inv .4)
 
 handed-small : (c : tie.At-loop Inv-loop μ-loop) → c .loop .at .handed < 2 ^ 63
@@ -99,16 +100,18 @@ is-ready-requires c κs = search needs
 
 returns : tie.Need-returns Inv-loop μ-loop
 returns c =
-    let a = c .before .before .before .before .args in
-    places-left (a .frame) (a .bounds) (a .held) (a .buffer .now) (a .kept) (a .places .now) (a .days .now) (a .lists .now) _ _
-    (c .before .before .is-framed .ensures) (c .before .is-ready .ensures) (not-true _ (c .if1 .taken))
+    let a = c .before .before .before .before .args in (
+      places-left (a .frame) (a .bounds) (a .held) (a .buffer .now) (a .kept) (a .places .now) (a .days .now) (a .lists .now) _ _
+          (c .before .before .is-framed .ensures) (c .before .is-ready .ensures) (not-true _ (c .if1 .taken)),
+      refl,
+    )
 
 cast-i : tie.Need-cast-i Inv-loop μ-loop
 cast-i c = search needs
 
 loop-holds : tie.Need-loop-holds Inv-loop μ-loop
 loop-holds c =
-    (refl, refl, search needs, search needs, ready (c .before) .handed, refl, refl)
+    (refl, refl, search needs, search needs, ready (c .before) .handed, refl, refl, refl)
 
 mul-second-at : tie.Need-mul-second-at Inv-loop μ-loop
 mul-second-at c = omega (arith, few (c .before .before .before .before))
@@ -122,8 +125,8 @@ second-at-requires c κs = small (c .before .before .before .before .before) .fi
 is-late-requires : tie.Need-is-late-requires Inv-loop μ-loop
 is-late-requires c κs = search needs
 
-add-at : tie.Need-add-at Inv-loop μ-loop
-add-at c = omega (arith, few (c .before .before .before .before .before .before .before .before .before))
+add-place : tie.Need-add-place Inv-loop μ-loop
+add-place c = omega (arith, few (c .before .before .before .before .before .before .before .before .before))
 
 add-i : tie.Need-add-i Inv-loop μ-loop
 add-i c = search needs
@@ -133,7 +136,7 @@ loop-less c = search needs
 
 loop-again : tie.Need-loop-again Inv-loop μ-loop
 loop-again c =
-    let k = c .before .before .before .before .before in
+    let k = c .before .before .before .before .before .before in
     let e = k .before .before in
     let l = e .before .before in (
       l .loop .inv .0,
@@ -143,25 +146,26 @@ loop-again c =
       omega arith,
       omega arith,
       l .loop .inv .6
-          ∙ rest-pass _ _ _ _ _ (omega arith) _ (in-hand k) (free e) (on-time (c .before .before .before)) (c .if4 .taken),
+          ∙ rest-pass _ _ _ _ _ (omega arith) _ (in-hand k) (free e) (on-time (c .before .before .before .before)) (c .if4 .taken),
+      l .loop .inv .7,
     )
 
 sub-buffer : tie.Need-sub-buffer Inv-loop μ-loop
 sub-buffer c =
-    let l = c .before .before .before .before .before .before .before .before .before in
+    let l = c .before .before .before .before .before .before .before .before .before .before in
     omega (arith, c .if4 .left, ready (l .before .before) .start)
 
 mul-buffer : tie.Need-mul-buffer Inv-loop μ-loop
-mul-buffer c = omega (arith, room (c .before .before .before .before .before .before .before .before .before))
+mul-buffer c = omega (arith, room (c .before .before .before .before .before .before .before .before .before .before))
 
 slice-write-buffer : tie.Need-slice-write-buffer Inv-loop μ-loop
 slice-write-buffer c = search needs
 
-add-at-2 : tie.Need-add-at-2 Inv-loop μ-loop
-add-at-2 c = record { fits = omega (arith, number-small (c .before .before .before .before .before .before .before .before .before .before)) }
+add-number : tie.Need-add-number Inv-loop μ-loop
+add-number c = record { fits = omega (arith, number-small (c .before .before .before .before .before .before .before .before .before .before .before)) }
 
-add-at-3 : tie.Need-add-at-3 Inv-loop μ-loop
-add-at-3 c = record { fits = omega (arith, handed-small (c .before .before .before .before .before .before .before .before .before .before .before)) }
+add-at : tie.Need-add-at Inv-loop μ-loop
+add-at c = record { fits = omega (arith, handed-small (c .before .before .before .before .before .before .before .before .before .before .before .before .before)) }
 
 is-reached-requires : tie.Need-is-reached-requires Inv-loop μ-loop
 is-reached-requires c κs = search needs
@@ -174,8 +178,8 @@ loop-less-2 c = search needs
 
 loop-again-2 : tie.Need-loop-again-2 Inv-loop μ-loop
 loop-again-2 c =
-    let t = c .before .before .before .before in
-    let k = t .before .before .before .before .before in
+    let t = c .before .before .before .before .before in
+    let k = t .before .before .before .before .before .before in
     let e = k .before .before in
     let l = e .before .before in (
       l .loop .inv .0,
@@ -185,8 +189,9 @@ loop-again-2 c =
       simp length-set (omega arith),
       simp length-set (omega arith),
       l .loop .inv .6
-          ∙ rest-hand _ _ _ _ _ (omega arith) _ (in-hand k) (free e) (on-time (t .before .before .before)) (t .if4 .left)
+          ∙ rest-hand _ _ _ _ _ (omega arith) _ (in-hand k) (free e) (on-time (t .before .before .before .before)) (t .if4 .left)
           (sym (c .before .is-reached .ensures) ∙ c .if5 .left),
+      l .loop .inv .7,
     )
 
 same-length : tie.Need-same-length Inv-loop μ-loop
@@ -195,7 +200,7 @@ same-length c = search needs
 returns-2 : tie.Need-returns-2 Inv-loop μ-loop
 returns-2 c =
     let l = c .before in
-    sym (whole l ∙ rest-over _ _ _ _ _ (omega arith) ∙ ap (λ (w : Why). stops w (l .loop .at) (l .loop .buffer)) (sym (l .loop .inv .0)))
+    (sym (whole l ∙ rest-over _ _ _ _ _ (omega arith) ∙ ap (λ (w : Why). stops w (l .loop .at) (l .loop .buffer)) (sym (l .loop .inv .0))), l .loop .inv .7)
 
 same-length-2 : tie.Need-same-length-2 Inv-loop μ-loop
 same-length-2 c = search needs
@@ -203,7 +208,7 @@ same-length-2 c = search needs
 returns-3 : tie.Need-returns-3 Inv-loop μ-loop
 returns-3 c =
     let l = c .before .before in
-    sym (whole l ∙ rest-full _ _ _ _ _ (omega arith) (c .if2 .taken))
+    (sym (whole l ∙ rest-full _ _ _ _ _ (omega arith) (c .if2 .taken)), l .loop .inv .7)
 
 same-length-3 : tie.Need-same-length-3 Inv-loop μ-loop
 same-length-3 c = search needs
@@ -213,21 +218,23 @@ returns-4 c =
     let k = c .before .before in
     let e = k .before .before in
     let l = e .before .before in
-    sym (whole l ∙ rest-until _ _ _ _ _ (omega arith) _ (in-hand k) (free e) (sym (c .before .is-late .ensures) ∙ c .if3 .taken))
+    (sym (whole l ∙ rest-until _ _ _ _ _ (omega arith) _ (in-hand k) (free e) (sym (c .before .is-late .ensures) ∙ c .if3 .taken)), l .loop .inv .7)
 
 same-length-4 : tie.Need-same-length-4 Inv-loop μ-loop
 same-length-4 c = search needs
 
 returns-5 : tie.Need-returns-5 Inv-loop μ-loop
 returns-5 c =
-    let t = c .before .before .before .before in
-    let k = t .before .before .before .before .before in
+    let t = c .before .before .before .before .before in
+    let k = t .before .before .before .before .before .before in
     let e = k .before .before in
-    let l = e .before .before in
-    sym
-    (whole l
-    ∙ rest-count _ _ _ _ _ (omega arith) _ (in-hand k) (free e) (on-time (t .before .before .before)) (t .if4 .left)
-    (sym (c .before .is-reached .ensures) ∙ c .if5 .taken))
+    let l = e .before .before in (
+      sym
+          (whole l
+          ∙ rest-count _ _ _ _ _ (omega arith) _ (in-hand k) (free e) (on-time (t .before .before .before .before)) (t .if4 .left)
+          (sym (c .before .is-reached .ensures) ∙ c .if5 .taken)),
+      l .loop .inv .7,
+    )
 
 pub walk-places-spec : {M : Type 1} → statement M
 walk-places-spec =
@@ -244,15 +251,15 @@ walk-places-spec =
     element-copy-out-second-at
     second-at-requires
     is-late-requires
-    add-at
+    add-place
     add-i
     loop-less
     loop-again
     sub-buffer
     mul-buffer
     slice-write-buffer
-    add-at-2
-    add-at-3
+    add-number
+    add-at
     is-reached-requires
     add-i-2
     loop-less-2

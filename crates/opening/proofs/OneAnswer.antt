@@ -1,0 +1,57 @@
+-- One answer: of each public function, two answers that its promise allows are one, and so are the slots that it leaves. `Post` is the promise as
+-- the source states it.
+-- Assumes nothing.
+use Prim.Native.Nat.{ℕ}
+use mathlib.Core.Path.{_≡_, ap, _∙_}
+use mathlib.Core.List.{List}
+use Rattle.calendar.proofs.AsksNothing.{AsksNothing, nothing-asked}
+use Rattle.calendar.proofs.Determines.{Determines, DeterminesBuffer, one-answer}
+use Rattle.opening.proofs.cursors.is_fit.Kinds as is-fit-kinds
+use Rattle.opening.proofs.cursors.is_fit.Reads as is-fit
+use Rattle.opening.proofs.period.covers.Kinds as covers-kinds
+use Rattle.opening.proofs.period.covers.Reads as covers
+use Rattle.opening.proofs.period.open_period.Kinds as open-period-kinds
+use Rattle.opening.proofs.period.open_period.Reads as open-period
+use Rattle.opening.proofs.period.open_year.Kinds as open-year-kinds
+use Rattle.opening.proofs.period.open_year.Reads as open-year
+use Rattle.opening.proofs.plan.plan_of.Kinds as plan-of-kinds
+use Rattle.opening.proofs.plan.plan_of.Reads as plan-of
+
+pub plan-of-has-one : Determines 0 plan-of-kinds.ps plan-of-kinds.r plan-of.Post
+plan-of-has-one κs a x y e f = one-answer
+
+pub covers-has-one : Determines 0 covers-kinds.ps covers-kinds.r covers.Post
+covers-has-one κs a x y e f = one-answer
+
+pub open-year-has-one : Determines 1 open-year-kinds.ps open-year-kinds.r open-year.Post
+open-year-has-one κs a x y e f = one-answer
+
+pub is-fit-has-one : Determines 3 is-fit-kinds.ps is-fit-kinds.r is-fit.Post
+is-fit-has-one κs a x y e f = one-answer
+
+-- the slots for days and for places are the last two parameters
+abbrev Slots : Type 0
+Slots = List ℕ × List ℕ
+
+both-alike : {d e p q : List ℕ} → d ≡ e → p ≡ q → _≡_ {A = Slots} (d, p) (e, q)
+both-alike {d} {e} {p} {q} x y = ap (λ (l : List ℕ). (l, p)) x ∙ ap (λ (l : List ℕ). (e, l)) y
+
+pub open-period-has-one : DeterminesBuffer 5 open-period-kinds.ps open-period-kinds.r Slots
+    (λ κs e. (e .1 .1 .1 .1 .1 .1 .1 .1 .1 .1 .1 .1 .1 .1 .1 .0 .now, e .1 .1 .1 .1 .1 .1 .1 .1 .1 .1 .1 .1 .1 .1 .1 .1 .0 .now)) open-period.Post
+open-period-has-one κs a x y e f p q = (one-answer (p .0) (q .0), both-alike (one-answer (p .1 .0) (q .1 .0)) (one-answer (p .1 .1) (q .1 .1)))
+
+-- and none asks anything of its callers
+pub plan-of-asks-nothing : AsksNothing 0 plan-of-kinds.ps plan-of.requires
+plan-of-asks-nothing κs a = nothing-asked
+
+pub covers-asks-nothing : AsksNothing 0 covers-kinds.ps covers.requires
+covers-asks-nothing κs a = nothing-asked
+
+pub open-year-asks-nothing : AsksNothing 1 open-year-kinds.ps open-year.requires
+open-year-asks-nothing κs a = nothing-asked
+
+pub is-fit-asks-nothing : AsksNothing 3 is-fit-kinds.ps is-fit.requires
+is-fit-asks-nothing κs a = nothing-asked
+
+pub open-period-asks-nothing : AsksNothing 5 open-period-kinds.ps open-period.requires
+open-period-asks-nothing κs a = nothing-asked

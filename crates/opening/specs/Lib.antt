@@ -1,0 +1,4 @@
+pub mod Fitting
+pub mod Opened
+pub mod Opening
+pub mod Plans
