@@ -43,7 +43,7 @@ accepts-is w =
     accepts-lowest (ltb 6 (w .freq)) (ltb 6 (w .wkst)) (ltb lastInstant (w .start)) (untilOut (w .until))
     (entryOut (w .lists)) (notRising (w .lists)) (mixedDays (w .lists)) (nthMisplaced (w .freq) (w .lists)) (positionsAlone (w .lists))
 
-not-above : (a b : ℕ) → not (ltb a b) ≡ leb b a
+pub not-above : (a b : ℕ) → not (ltb a b) ≡ leb b a
 not-above a b = go (ltb a b) refl
   where
     go : (t : Bool) → ltb a b ≡ t → not t ≡ leb b a

@@ -10,6 +10,7 @@ use lib.IntN.{ℤ, pos, negsuc}
 use Rattle.calendar.specs.Calendar.{if_then_else_}
 use Rattle.rule.specs.declared.rrule.Frequency.{Frequency}
 use Rattle.rule.specs.declared.rrule.Range.{Range}
+use Rattle.rule.specs.declared.rrule.Refusal.{Refusal}
 use Rattle.rule.specs.declared.rrule.Verdict.{Verdict}
 use Rattle.rule.specs.declared.rrule.Rule.{Rule}
 use Rattle.rule.specs.Instants.{lastInstant}
@@ -109,6 +110,18 @@ breaksNoRow r =
     && (not (hasEvery (r .byday) && hasNth (r .byday))
     && (not (hasNth (r .byday) && (not (isEmpty (r .byweekno)) || isBelow Frequency.Monthly (r .freq)))
     && not (not (isEmpty (r .bysetpos)) && noOther r)))
+
+-- the rows of the table, asked of a record; 1, 5 and 6 are rows that none can break
+abbrev pub breaks : Refusal → Rule → Bool
+breaks Refusal.FrequencyAbove r = false
+breaks Refusal.WeekStartAbove r = ltb 6 (r .wkst)
+breaks Refusal.StartOut r = ltb lastInstant (r .start)
+breaks Refusal.UntilOut r = untilOut (r .until)
+breaks Refusal.EntryOut r = false
+breaks Refusal.NotRising r = false
+breaks Refusal.MixedDays r = hasEvery (r .byday) && hasNth (r .byday)
+breaks Refusal.NthMisplaced r = hasNth (r .byday) && (not (isEmpty (r .byweekno)) || isBelow Frequency.Monthly (r .freq))
+breaks Refusal.PositionsAlone r = not (isEmpty (r .bysetpos)) && noOther r
 
 -- filling in would change the record
 unfoldable pub isUnfilled : Rule → Bool

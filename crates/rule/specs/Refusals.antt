@@ -27,6 +27,20 @@ refusalNumber Refusal.MixedDays = 7
 refusalNumber Refusal.NthMisplaced = 8
 refusalNumber Refusal.PositionsAlone = 9
 
+-- the table's order
+abbrev pub refusals : List Refusal
+refusals =
+    Refusal.FrequencyAbove ∷
+    Refusal.WeekStartAbove ∷
+    Refusal.StartOut ∷
+    Refusal.UntilOut ∷
+    Refusal.EntryOut ∷
+    Refusal.NotRising ∷
+    Refusal.MixedDays ∷
+    Refusal.NthMisplaced ∷
+    Refusal.PositionsAlone ∷
+    []
+
 -- UNTIL out of range
 abbrev pub untilOut : Until → Bool
 untilOut Until.Absent = false
@@ -37,7 +51,7 @@ lacks [] = true
 lacks (x ∷ xs) = false
 
 -- some entry of a list passes a test
-unfoldable pub some : (ℤ → Bool) → List ℤ → Bool
+unfoldable pub some : {A : Type 0} → (A → Bool) → List A → Bool
 some p [] = false
 some p (x ∷ xs) = p x || some p xs
 
@@ -181,3 +195,20 @@ lowest (row n b ∷ rows) = elim b [ true ↦ Verdict.Refused n | false ↦ lowe
 unfoldable pub verdict : Raw → Verdict
 unfolding lowest tableOf
 verdict w = lowest (tableOf (w .freq) (w .wkst) (w .start) (w .until) (w .lists))
+
+-- The table: each row judged by itself on the rule as given.
+abbrev pub applies : Refusal → Raw → Bool
+applies Refusal.FrequencyAbove w = ltb 6 (w .freq)
+applies Refusal.WeekStartAbove w = ltb 6 (w .wkst)
+applies Refusal.StartOut w = ltb lastInstant (w .start)
+applies Refusal.UntilOut w = untilOut (w .until)
+applies Refusal.EntryOut w = entryOut (w .lists)
+applies Refusal.NotRising w = notRising (w .lists)
+applies Refusal.MixedDays w = mixedDays (w .lists)
+applies Refusal.NthMisplaced w = nthMisplaced (w .freq) (w .lists)
+applies Refusal.PositionsAlone w = positionsAlone (w .lists)
+
+-- the first refusal that passes a test
+unfoldable pub firstOf : (Refusal → Bool) → List Refusal → Verdict
+firstOf p [] = Verdict.Accepted
+firstOf p (n ∷ ns) = elim (p n) [ true ↦ Verdict.Refused n | false ↦ firstOf p ns ]
