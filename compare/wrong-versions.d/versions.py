@@ -189,7 +189,10 @@ def fillings():
 
 NUMBERS = ("FrequencyAbove", "WeekStartAbove", "StartOut", "UntilOut", "EntryOut", "NotRising", "MixedDays", "NthMisplaced", "PositionsAlone")
 TABLES = ("frequency", "week-start", "start", "until", "entries-month", "order-month", "mixed", "nth", "positions")
-ROWS = ("frequency", "wkst", "start", "until", "entry", "order", "mixed", "nth", "positions")
+ROWS = (  # the test of each
+    "ltb 6 (w .freq)", "ltb 6 (w .wkst)", "ltb lastInstant (w .start)", "untilOut (w .until)", "entryOut (w .lists)", "notRising (w .lists)",
+    "mixedDays (w .lists)", "nthMisplaced (w .freq) (w .lists)", "positionsAlone (w .lists)",
+)
 RANGES = {
     "months": ("fromOne", 12, "entries-month"), "monthdays": ("eitherWay", 31, "entries-monthday"), "yeardays": ("eitherWay", 366, "entries-yearday"),
     "weeknos": ("eitherWay", 53, "entries-weekno"), "nths": ("throughZero", 53, "entries-day"), "weekdays": ("fromZero", 6, "entries-day"),
@@ -204,12 +207,13 @@ def numbers():
         old = f"refusalNumber Refusal.{a} = {i}\nrefusalNumber Refusal.{b} = {i + 1}\n"
         new = f"refusalNumber Refusal.{a} = {i + 1}\nrefusalNumber Refusal.{b} = {i}\n"
         yield Version(f"{i} and {i + 1} exchanged", Edit(REFUSALS, old, new, []), "Refusals", TABLES[i - 1])
-        old = f"row Refusal.{a} {ROWS[i - 1]} ∷\n    row Refusal.{b} {ROWS[i]} ∷\n"
-        new = f"row Refusal.{b} {ROWS[i]} ∷\n    row Refusal.{a} {ROWS[i - 1]} ∷\n"
+        old = f"    Refusal.{a} ∷\n    Refusal.{b} ∷\n"
+        new = f"    Refusal.{b} ∷\n    Refusal.{a} ∷\n"
         if i < 8:  # 8 needs a BYDAY and 9 has none
             yield Version(f"{i + 1} before {i}", Edit(REFUSALS, old, new, []), "Refusals", "lowest")
     for i, (name, row, table) in enumerate(zip(NUMBERS, ROWS, TABLES), 1):
-        yield Version(f"{i} never given", Edit(REFUSALS, f"row Refusal.{name} {row} ∷", f"row Refusal.{name} false ∷", []), "Refusals", table)
+        line = f"applies Refusal.{name} w ="
+        yield Version(f"{i} never given", Edit(REFUSALS, f"{line} {row}\n", f"{line} false\n", []), "Refusals", table)
     old = "faultNumber Fault.Record = 20\nfaultNumber Fault.Cursor = 21\n"
     new = "faultNumber Fault.Record = 21\nfaultNumber Fault.Cursor = 20\n"
     yield Version("20 and 21 exchanged", Edit(FAULTS, old, new, []), "Faults", "record-20")
@@ -229,15 +233,16 @@ def ranges():
                 others[f"from -{other}"] = f"record {{ negatives = {other}; zeroin = false; positives = {n} }}"
         for told, new in others.items():
             yield Version(f"{name}: {told}", Edit(LISTS, line, f"\n{name} = {new}\n", []), "Refusals", table, list_of(table))
-    for test, table in (("(ltb 6 freq)", "frequency"), ("(ltb 6 wkst)", "week-start")):
+    for test, table in (("ltb 6 (w .freq)", "frequency"), ("ltb 6 (w .wkst)", "week-start")):
         for other in (5, 7):
             new = test.replace("6", str(other))
             yield Version(f"{table} to {other}", Edit(REFUSALS, test, new, []), "Refusals", table)
     for test, new, table in (
-        ("(ltb lastInstant start)", "(leb lastInstant start)", "start"), ("(ltb lastInstant start)", "(ltb (suc lastInstant) start)", "start"),
+        ("= ltb lastInstant (w .start)", "= leb lastInstant (w .start)", "start"),
+        ("= ltb lastInstant (w .start)", "= ltb (suc lastInstant) (w .start)", "start"),
         ("= ltb lastInstant t", "= leb lastInstant t", "until"), ("= ltb lastInstant t", "= ltb (suc lastInstant) t", "until"),
     ):
-        yield Version(f"{table} by {new.strip('= ()')}", Edit(REFUSALS, test, new, [LEB, SUC]), "Refusals", table)
+        yield Version(f"{table} by {new.strip('= ')}", Edit(REFUSALS, test, new, [LEB, SUC]), "Refusals", table)
 
 
 SINGLE = {  # the ranges of the lists that are one list, and the lists

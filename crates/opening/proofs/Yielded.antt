@@ -5,9 +5,9 @@ use mathlib.Core.Path.{_≡_, refl, ap, subst, _∙_}
 use mathlib.Core.Bool.{Bool, true, false, not, _&&_}
 use mathlib.Core.List.{List}
 use native.Mathlib.Omega.{arith}
-use lib.Dec.{leb}
 use lib.ListN.{length}
-use borrow.Author.Tests.{leb-true, not-true}
+use borrow.Author.Tests.{ltb-false}
+use Rattle.rule.specs.declared.rrule.Refusal.{Refusal}
 use Rattle.rule.specs.declared.rrule.Rule.{Rule}
 use Rattle.rule.specs.declared.rrule.Slot.{Slot}
 use Rattle.rule.specs.declared.rrule.Verdict.{Verdict}
@@ -20,6 +20,7 @@ use Rattle.rule.specs.Records.{breaksNoRow, isUnfilled, yielded, Sized}
 use Rattle.rule.proofs.FillKeeps.{fill-sized}
 use Rattle.rule.proofs.GoodRecords.{good-records}
 use Rattle.rule.proofs.RecordsComputed.{records-computed}
+use Rattle.rule.proofs.RefusalLaws.{none-broken}
 
 length-flags : (f : ℕ → Bool) (n i : ℕ) → length (flags f n i) ≡ n
 unfolding flags
@@ -67,12 +68,13 @@ pub record Good (r : Rule) : Type 0 where
   pub until : untilOut (r .until) ≡ false
 
 pub good : (r : Rule) → yielded r ≡ true → Good r
-unfolding breaksNoRow
 good r h =
     let w = good-records r .0 h in
     let z : Sized r = yields-sized (w .0) r (w .1) in
-    let rows = both (breaksNoRow r) (not (isUnfilled r)) (records-computed r z ∙ h) in
-    let p = both (leb (r .wkst) 6 && (leb (r .start) lastInstant && not (untilOut (r .until)))) _ (rows .0) in
-    let q = both (leb (r .wkst) 6) _ (p .0) in
-    let s = both (leb (r .start) lastInstant) _ (q .1) in
-    record { sized = z; wkst = leb-true _ _ (q .0); start = leb-true _ _ (s .0); until = not-true _ (s .1) }
+    let kept = none-broken r (both (breaksNoRow r) (not (isUnfilled r)) (records-computed r z ∙ h) .0) in
+    record {
+      sized = z;
+      wkst = ltb-false 6 (r .wkst) (kept Refusal.WeekStartAbove);
+      start = ltb-false lastInstant (r .start) (kept Refusal.StartOut);
+      until = kept Refusal.UntilOut;
+    }

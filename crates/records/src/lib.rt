@@ -4,7 +4,6 @@ use basics::rrule::frequency_number;
 use rule::rrule::Rule;
 use rule::rrule::Until;
 ghost use mathlib.Core.Path.{_≡_};
-ghost use mathlib.Core.Bool.{not};
 ghost use Prim.Native.Nat.{_-_, _≤_};
 ghost use lib.ListN.{length, take, drop};
 ghost use Rattle.rule.specs.Lists.{isEmpty};
@@ -14,12 +13,12 @@ ghost use Rattle.rule.specs.Records.{hasEvery, hasNth, yielded};
 // 9999-12-31T23:59:59Z
 const LAST_INSTANT: u64 = 253402300799;
 
-fn until_in(until: Until) -> bool
-    ensures { λ r. ⌜ r ≡ not (untilOut until) ⌝ }
+fn until_out(until: Until) -> bool
+    ensures { λ r. ⌜ r ≡ untilOut until ⌝ }
 {
     match until {
-        Until::Absent => true,
-        Until::At(t) => !(LAST_INSTANT < t),
+        Until::Absent => false,
+        Until::At(t) => LAST_INSTANT < t,
     }
 }
 
@@ -53,7 +52,7 @@ pub fn is_record(rule: Rule) -> bool
     let freq = rule.freq;
     let until = rule.until;
     let number = frequency_number(freq);
-    let range = (rule.wkst <= 6) & ((rule.start <= LAST_INSTANT) & until_in(until));
+    let until = until_out(until);
     let every = has_every(&rule.byday);
     let nth = has_nth(&rule.byday);
     let months = is_empty(&rule.bymonth);
@@ -66,10 +65,14 @@ pub fn is_record(rule: Rule) -> bool
     let positions = is_empty(&rule.bysetpos);
     let days = weeknos & (yeardays & (monthdays & !(every | nth)));
     let others = months & (days & (hours & (minutes & seconds)));
-    let mixed = every & nth;
-    let misplaced = nth & (!weeknos | (1 < number));
-    let alone = !positions & others;
+    // the rows that a record can break, in the table's order
+    let broken = (6 < rule.wkst)
+        | (LAST_INSTANT < rule.start)
+        | until
+        | (every & nth)
+        | (nth & (!weeknos | (1 < number)))
+        | (!positions & others);
     let unfilled = (days & (number < 3))
         | (((number < 4) & hours) | (((number < 5) & minutes) | ((number < 6) & seconds)));
-    (range & (!mixed & (!misplaced & !alone))) & !unfilled
+    !(broken | unfilled)
 }

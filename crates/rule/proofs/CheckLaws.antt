@@ -1,65 +1,59 @@
--- The check from its parts: the table, the verdict, and the answer.
+-- The check from its parts: the verdict row by row, and the answer.
 -- Assumes nothing.
-use mathlib.Core.Path.{_≡_, refl, ap, sym, _∙_}
-use mathlib.Core.Bool.{Bool, true, false, not, _&&_, _||_}
+use mathlib.Core.Path.{_≡_, refl, ap, _∙_}
+use mathlib.Core.Bool.{Bool, true, false}
 use mathlib.Core.List.{List, [], _∷_}
-use Prim.Native.Nat.{ℕ, suc, _≤_}
+use Prim.Native.Nat.{suc, _≤_}
 use native.Mathlib.Omega.{arith}
 use lib.ListN.{length}
-use lib.Dec.{eqb, ltb, leb}
+use lib.Dec.{eqb}
 use lib.IntN.{ℤ}
 use borrow.Author.Tests.{ne-eqb, ltb-false}
 use Rattle.rule.specs.declared.rrule.Frequency.{Frequency}
-use Rattle.rule.specs.declared.rrule.Count.{Count}
-use Rattle.rule.specs.declared.rrule.Until.{Until}
 use Rattle.rule.specs.declared.rrule.Refusal.{Refusal}
 use Rattle.rule.specs.declared.rrule.Verdict.{Verdict}
 use Rattle.rule.specs.declared.rrule.Checked.{Checked}
 use Rattle.rule.specs.declared.rrule.Rule.{Rule}
 use Rattle.rule.specs.Instants.{lastInstant}
-use Rattle.rule.specs.Raw.{RawLists, Raw}
-use Rattle.rule.specs.Refusals.{lacks, untilOut, entryOut, notRising, someEvery, someNth, mixedDays, nthMisplaced, positionsAlone, rows, tableOf, lowest, verdict}
+use Rattle.rule.specs.Raw.{Raw}
+use Rattle.rule.specs.Refusals.{refusals, lacks, applies, firstOf, verdict}
 use Rattle.rule.specs.Filling.{frequency, givenAs, given, fill, blank, answers, checked}
+use Rattle.rule.specs.Entries.{orRefused}
+use Rattle.rule.proofs.RefusalLaws.{none-given}
 
 pub lacks-is : (l : List ℤ) → eqb (length l) 0 ≡ lacks l
 lacks-is [] = refl
 lacks-is (x ∷ xs) = ne-eqb (suc (length xs)) 0 (λ (e : suc (length xs) ≡ 0). omega arith)
 
-pub table-by-parts : (freq wkst start : ℕ) (until : Until) (l : RawLists) {u e o v n a : Bool}
-    → u ≡ untilOut until → e ≡ entryOut l → o ≡ notRising l → v ≡ someEvery (l .bydayn) → n ≡ someNth (l .bydayn) → a ≡ positionsAlone l
-    → lowest (rows (ltb 6 freq) (ltb 6 wkst) (leb 253402300800 start) u e o (v && n) (n && (not (eqb (length (l .byweekno)) 0) || ltb 1 freq)) a)
-    ≡ lowest (tableOf freq wkst start until l)
-unfolding tableOf
-table-by-parts freq wkst start until l eu ee eo ev en ea = rw (eu, ee, eo, ev, en, ea, lacks-is (l .byweekno))
+-- the verdict row by row, as the code comes to it
+unfoldable pub inTurn : (Refusal → Bool) → Verdict → List Refusal → Verdict
+inTurn p v [] = v
+inTurn p v (n ∷ ns) = inTurn p (orRefused v n (p n)) ns
 
-not-refused : (n : Refusal) → Verdict.Refused n ≡ Verdict.Accepted → ⊥
-not-refused n e = absurd (let z : _≡_ {A = ℕ} 0 1 = cc in omega arith)
+refused-stays : (p : Refusal → Bool) (m : Refusal) (ns : List Refusal) → inTurn p (Verdict.Refused m) ns ≡ Verdict.Refused m
+unfolding inTurn
+refused-stays p m [] = refl
+refused-stays p m (n ∷ ns) = refused-stays p m ns
 
-pub start-in-range : (freq wkst start : ℕ) (until : Until) (l : RawLists) → lowest (tableOf freq wkst start until l) ≡ Verdict.Accepted → start ≤ lastInstant
-unfolding tableOf lowest
-start-in-range freq wkst start until l e = go (ltb 6 freq) (ltb 6 wkst) (ltb lastInstant start) refl e
+first-in-turn : (p : Refusal → Bool) (ns : List Refusal) → inTurn p Verdict.Accepted ns ≡ firstOf p ns
+unfolding inTurn firstOf
+first-in-turn p [] = refl
+first-in-turn p (n ∷ ns) = go (p n) (first-in-turn p ns)
   where
-    go : (f w s : Bool) → ltb lastInstant start ≡ s
-        → lowest (rows f w s (untilOut until) (entryOut l) (notRising l) (mixedDays l) (nthMisplaced freq l) (positionsAlone l)) ≡ Verdict.Accepted → start ≤ lastInstant
-    go true w s p q = absurd (not-refused _ q)
-    go false true s p q = absurd (not-refused _ q)
-    go false false true p q = absurd (not-refused _ q)
-    go false false false p q = ltb-false lastInstant start p
+    go : (t : Bool) → inTurn p Verdict.Accepted ns ≡ firstOf p ns
+        → inTurn p (orRefused Verdict.Accepted n t) ns ≡ elim t [ true ↦ Verdict.Refused n | false ↦ firstOf p ns ]
+    go true e = refused-stays p n ns
+    go false e = e
 
-pub wkst-in-range : (freq wkst start : ℕ) (until : Until) (l : RawLists) → lowest (tableOf freq wkst start until l) ≡ Verdict.Accepted → wkst ≤ 6
-unfolding tableOf lowest
-wkst-in-range freq wkst start until l e = go (ltb 6 freq) (ltb 6 wkst) refl e
-  where
-    go : (f w : Bool) → ltb 6 wkst ≡ w
-        → lowest (rows f w (ltb lastInstant start) (untilOut until) (entryOut l) (notRising l) (mixedDays l) (nthMisplaced freq l) (positionsAlone l)) ≡ Verdict.Accepted → wkst ≤ 6
-    go true w p q = absurd (not-refused _ q)
-    go false true p q = absurd (not-refused _ q)
-    go false false p q = ltb-false 6 wkst p
+pub verdict-in-turn : (w : Raw) → inTurn (λ (n : Refusal). applies n w) Verdict.Accepted refusals ≡ verdict w
+unfolding verdict
+verdict-in-turn w = first-in-turn (λ (n : Refusal). applies n w) refusals
 
-checked-is : (w : Raw) → answers (lowest (tableOf (w .freq) (w .wkst) (w .start) (w .until) (w .lists)))
-    (fill (givenAs (frequency (w .freq)) (w .interval) (w .count) (w .until) (w .wkst) (w .start) (w .lists))) ≡ checked w
-unfolding checked
-checked-is w = refl
+pub start-in-range : (w : Raw) → verdict w ≡ Verdict.Accepted → w .start ≤ lastInstant
+start-in-range w e = ltb-false lastInstant (w .start) (none-given w .0 e Refusal.StartOut)
+
+pub wkst-in-range : (w : Raw) → verdict w ≡ Verdict.Accepted → w .wkst ≤ 6
+wkst-in-range w e = ltb-false 6 (w .wkst) (none-given w .0 e Refusal.WeekStartAbove)
 
 refused-is : (v : Verdict) (r : Rule) (n : Refusal) → v ≡ Verdict.Refused n → record { verdict = v; rule = blank } ≡ answers v r
 unfolding answers
@@ -69,20 +63,19 @@ accepted-is : (v : Verdict) (r : Rule) → v ≡ Verdict.Accepted → record { v
 unfolding answers
 accepted-is v r e = rw e
 
-pub refused : (w : Raw) (v : Verdict) (b : Rule) (n : Refusal) → v ≡ lowest (tableOf (w .freq) (w .wkst) (w .start) (w .until) (w .lists))
-    → v ≡ Verdict.Refused n → b ≡ blank → record { verdict = v; rule = b } ≡ checked w
+pub refused : (w : Raw) (v : Verdict) (b : Rule) (n : Refusal) → v ≡ verdict w → v ≡ Verdict.Refused n → b ≡ blank
+    → record { verdict = v; rule = b } ≡ checked w
+unfolding checked
 refused w v b n e h k =
     ap (λ (x : Rule). record { verdict = v; rule = x }) k
-    ∙ refused-is v _ n h
-    ∙ ap (λ (x : Verdict). answers x (fill (givenAs (frequency (w .freq)) (w .interval) (w .count) (w .until) (w .wkst) (w .start) (w .lists)))) e
-    ∙ checked-is w
+    ∙ refused-is v (fill (given w)) n h
+    ∙ ap (λ (x : Verdict). answers x (fill (given w))) e
 
-pub accepted : (w : Raw) (v : Verdict) (f : Frequency) (g r : Rule) → v ≡ lowest (tableOf (w .freq) (w .wkst) (w .start) (w .until) (w .lists))
-    → v ≡ Verdict.Accepted → f ≡ frequency (w .freq) → g ≡ givenAs f (w .interval) (w .count) (w .until) (w .wkst) (w .start) (w .lists) → r ≡ fill g
-    → record { verdict = v; rule = r } ≡ checked w
+pub accepted : (w : Raw) (v : Verdict) (f : Frequency) (g r : Rule) → v ≡ verdict w → v ≡ Verdict.Accepted → f ≡ frequency (w .freq)
+    → g ≡ givenAs f (w .interval) (w .count) (w .until) (w .wkst) (w .start) (w .lists) → r ≡ fill g → record { verdict = v; rule = r } ≡ checked w
+unfolding checked given
 accepted w v f g r e h ef eg er =
     ap (λ (x : Rule). record { verdict = v; rule = x })
     (er ∙ ap fill (eg ∙ ap (λ (x : Frequency). givenAs x (w .interval) (w .count) (w .until) (w .wkst) (w .start) (w .lists)) ef))
-    ∙ accepted-is v _ h
-    ∙ ap (λ (x : Verdict). answers x (fill (givenAs (frequency (w .freq)) (w .interval) (w .count) (w .until) (w .wkst) (w .start) (w .lists)))) e
-    ∙ checked-is w
+    ∙ accepted-is v (fill (given w)) h
+    ∙ ap (λ (x : Verdict). answers x (fill (given w))) e

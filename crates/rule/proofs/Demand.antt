@@ -22,7 +22,7 @@ use Rattle.rule.specs.declared.rrule.Until.{Until}
 use Rattle.rule.specs.declared.rrule.Verdict.{Verdict}
 use Rattle.rule.specs.declared.rrule.Rule.{Rule}
 use Rattle.rule.specs.Instants.{second, instant, lastInstant, rangeEnd}
-use Rattle.rule.specs.Refusals.{untilOut, entryOut, notRising, mixedDays, nthMisplaced, positionsAlone, rows, tableOf, lowest, verdict}
+use Rattle.rule.specs.Refusals.{verdict}
 use Rattle.rule.specs.Raw.{Raw}
 use Rattle.rule.specs.Filling.{given, fill, answers, checked, Yields}
 use Rattle.rule.specs.Records.{asRaw, accepts, yielded}
@@ -35,28 +35,25 @@ use Rattle.rule.specs.Demand.{callOf, toldBy, Handed, EndedBy, Lists, Go
 use Rattle.rule.proofs.CheckLaws.{start-in-range, wkst-in-range}
 use Rattle.rule.proofs.Chosen.{kept-are}
 use Rattle.rule.proofs.GoodRecords.{good-records}
+use Rattle.rule.proofs.RefusalLaws.{accepting}
 use Rattle.rule.proofs.SoundPeriods.{kept-candidate, in-range, ends, sound}
 
 -- what is known of a good record
-accepted-of : (v : Verdict) → accepts v ≡ true → v ≡ Verdict.Accepted
-accepted-of Verdict.Accepted e = refl
-accepted-of (Verdict.Refused n) e = absurd (let z : _≡_ {A = ℕ} 0 1 = cc in omega arith)
-
 both-left : (a b : Bool) → a && b ≡ true → a ≡ true
 both-left true b e = refl
 both-left false b e = e
 
 passes : (r : Rule) → yielded r ≡ true → verdict (asRaw r) ≡ Verdict.Accepted
 unfolding yielded
-passes r e = accepted-of (verdict (asRaw r)) (both-left _ _ e)
+passes r e = accepting (verdict (asRaw r)) (both-left _ _ e)
 
 pub good-start : (r : Rule) → yielded r ≡ true → r .start ≤ lastInstant
-unfolding asRaw verdict
-good-start r e = start-in-range (asRaw r .freq) (r .wkst) (r .start) (r .until) (asRaw r .lists) (passes r e)
+unfolding asRaw
+good-start r e = start-in-range (asRaw r) (passes r e)
 
 pub good-wkst : (r : Rule) → yielded r ≡ true → r .wkst ≤ 6
-unfolding asRaw verdict
-good-wkst r e = wkst-in-range (asRaw r .freq) (r .wkst) (r .start) (r .until) (asRaw r .lists) (passes r e)
+unfolding asRaw
+good-wkst r e = wkst-in-range (asRaw r) (passes r e)
 
 -- instants and seconds
 back : (s : ℕ) → 719162 * 86400 ≤ s → second (instant s) ≡ s

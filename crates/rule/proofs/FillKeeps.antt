@@ -1,23 +1,22 @@
--- Filling in keeps the sizes of a record's sets, and breaks no row of the table.
+-- Filling in keeps the sizes of a record's sets, and each row of the table that the record keeps.
 -- Assumes nothing.
 use mathlib.Core.Path.{_≡_, refl, ap, sym, _∙_, subst}
 use mathlib.Core.Bool.{Bool, true, false, not, _&&_, _||_, and-false}
 use mathlib.Core.List.{List}
 use Prim.Native.Nat.{ℕ, _+_, _/_, _%_, _≤_, _<_}
 use native.Mathlib.Omega.{arith}
-use lib.Dec.{eqb, ltb, leb}
 use lib.ListN.{length}
 use lib.Seq.{take-set-le, drop-set-lt}
 use borrow.Author.Tests.{not-true}
 use Rattle.calendar.specs.declared.utils.Date.{Date}
 use Rattle.calendar.specs.Calendar.{if_then_else_, dateOf}
 use Rattle.rule.specs.declared.rrule.Slot.{Slot}
+use Rattle.rule.specs.declared.rrule.Refusal.{Refusal}
 use Rattle.rule.specs.declared.rrule.Rule.{Rule}
-use Rattle.rule.specs.Instants.{second, lastInstant}
+use Rattle.rule.specs.Instants.{second}
 use Rattle.rule.specs.Lists.{isEmpty, mark}
-use Rattle.rule.specs.Refusals.{untilOut}
 use Rattle.rule.specs.Filling.{frequencyNumber, takes, noDays, fill}
-use Rattle.rule.specs.Records.{hasEvery, hasNth, noOther, breaksNoRow, Sized}
+use Rattle.rule.specs.Records.{hasEvery, hasNth, noOther, breaks, Sized}
 use Rattle.rule.proofs.EntryLaws.{length-mark}
 use Rattle.rule.proofs.DayParts.{empty-in-parts}
 use Rattle.rule.proofs.FillLaws.{filledBy, filled-by, both, empty-before, no-days-before}
@@ -50,7 +49,7 @@ fill-sized r z =
     (sized-by r (second (r .start)) (frequencyNumber (r .freq)) (dateOf (second (r .start) / 86400)) (noDays r) z)
 
 -- a test that is not wider than another that fails
-pub narrower : (a b x y : Bool) → (x ≡ true → a ≡ true) → (y ≡ true → b ≡ true) → (a && b) ≡ false → not (x && y) ≡ true
+pub narrower : (a b x y : Bool) → (x ≡ true → a ≡ true) → (y ≡ true → b ≡ true) → (a && b) ≡ false → (x && y) ≡ false
 narrower a b true true f g h = let p : a ≡ true = f refl in let q : b ≡ true = g refl in absurd (let z : _≡_ {A = ℕ} 0 1 = cc in omega arith)
 narrower a b true false f g h = refl
 narrower a b false y f g h = refl
@@ -95,22 +94,21 @@ others-before r s n date free h =
       empty-before _ _ _ (d .1),
     )
 
-keeps-by : (r : Rule) (s n : ℕ) (date : Date) (free : Bool) → Sized r → breaksNoRow r ≡ true → breaksNoRow (filledBy r s n date free) ≡ true
-unfolding breaksNoRow
-keeps-by r s n date free z h =
-    let w : ℕ = 371 + s / 86400 % 7 in
-    let low : 371 ≤ w = omega arith in
-    let high : w < 378 = omega arith in
-    let t : Bool = free && eqb n 2 in
-    let a = both (leb (r .wkst) 6 && (leb (r .start) lastInstant && not (untilOut (r .until)))) _ h in
-    let b = both (not (hasEvery (r .byday) && hasNth (r .byday))) _ (a .1) in
-    let c = both (not (hasNth (r .byday) && (not (isEmpty (r .byweekno)) || ltb 1 (frequencyNumber (r .freq))))) _ (b .1) in
-    let mixed = mixed-kept t (r .byday) w low high (z .byday) (not-true (hasEvery (r .byday) && hasNth (r .byday)) (b .0)) in
-    rw (a .0, mixed, nth-kept t (r .byday) w low high, c .0)
-    (narrower (not (isEmpty (r .bysetpos))) (noOther r) (not (isEmpty (r .bysetpos))) (noOther (filledBy r s n date free))
-    (λ e. e) (others-before r s n date free) (not-true (not (isEmpty (r .bysetpos)) && noOther r) (c .1)))
+-- each row that a record keeps, it keeps filled in
+keeps-by : (r : Rule) (s : ℕ) (date : Date) (free : Bool) → Sized r → (m : Refusal) → breaks m r ≡ false
+    → breaks m (filledBy r s (frequencyNumber (r .freq)) date free) ≡ false
+keeps-by r s date free z Refusal.FrequencyAbove h = refl
+keeps-by r s date free z Refusal.WeekStartAbove h = h
+keeps-by r s date free z Refusal.StartOut h = h
+keeps-by r s date free z Refusal.UntilOut h = h
+keeps-by r s date free z Refusal.EntryOut h = refl
+keeps-by r s date free z Refusal.NotRising h = refl
+keeps-by r s date free z Refusal.MixedDays h = mixed-kept _ (r .byday) (371 + s / 86400 % 7) (omega arith) (omega arith) (z .byday) h
+keeps-by r s date free z Refusal.NthMisplaced h = rw (nth-kept _ (r .byday) (371 + s / 86400 % 7) (omega arith) (omega arith)) h
+keeps-by r s date free z Refusal.PositionsAlone h =
+    narrower (not (isEmpty (r .bysetpos))) (noOther r) (not (isEmpty (r .bysetpos))) (noOther (filledBy r s (frequencyNumber (r .freq)) date free))
+    (λ e. e) (others-before r s (frequencyNumber (r .freq)) date free) h
 
-pub fill-keeps : (r : Rule) → Sized r → breaksNoRow r ≡ true → breaksNoRow (fill r) ≡ true
-fill-keeps r z h =
-    ap breaksNoRow (sym (filled-by r))
-    ∙ keeps-by r (second (r .start)) (frequencyNumber (r .freq)) (dateOf (second (r .start) / 86400)) (noDays r) z h
+pub fill-keeps : (r : Rule) → Sized r → (m : Refusal) → breaks m r ≡ false → breaks m (fill r) ≡ false
+fill-keeps r z m h =
+    ap (breaks m) (sym (filled-by r)) ∙ keeps-by r (second (r .start)) (dateOf (second (r .start) / 86400)) (noDays r) z m h

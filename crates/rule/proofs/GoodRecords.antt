@@ -7,19 +7,20 @@ use Prim.Native.Nat.{ℕ, _≤_}
 use native.Mathlib.Omega.{arith}
 use lib.Dec.{eqb, ltb}
 use lib.ListN.{length}
-use borrow.Author.Tests.{eqb-true, not-true, not-false, ltb-false, le-leb}
+use borrow.Author.Tests.{eqb-true, not-false, ltb-false}
+use Rattle.rule.specs.declared.rrule.Refusal.{Refusal}
 use Rattle.rule.specs.declared.rrule.Verdict.{Verdict}
 use Rattle.rule.specs.declared.rrule.Rule.{Rule}
-use Rattle.rule.specs.Instants.{lastInstant}
 use Rattle.rule.specs.Lists.{months, monthdays, yeardays, weeknos, nths, weekdays, hours, minutes, seconds, positions, isEmpty, setOf}
 use Rattle.rule.specs.Raw.{RawLists, Raw, entries, pairs}
-use Rattle.rule.specs.Refusals.{untilOut, lacks, strays, entryOut, someEvery, someNth, notRising, mixedDays, nthMisplaced, positionsAlone, verdict}
+use Rattle.rule.specs.Refusals.{lacks, strays, entryOut, someEvery, someNth, mixedDays, nthMisplaced, positionsAlone, applies, verdict}
 use Rattle.rule.specs.Filling.{frequencyNumber, frequency, givenAs, given, noDays, fillFrom, fill, answers, checked, Yields}
-use Rattle.rule.specs.Records.{asRaw, accepts, sameSet, sameSets, yielded, hasEvery, hasNth, noOther, breaksNoRow, Sized}
+use Rattle.rule.specs.Records.{asRaw, accepts, sameSet, sameSets, yielded, hasEvery, hasNth, noOther, breaks, breaksNoRow, Sized}
 use Rattle.rule.specs.Claims.{GoodRecords}
 use Rattle.calendar.proofs.Table.{same-below}
 use Rattle.rule.proofs.RuleLaws.{ruleOf}
-use Rattle.rule.proofs.RecordLaws.{accepts-is, in-order, accepted-is, given-back, frequency-back}
+use Rattle.rule.proofs.RecordLaws.{in-order, accepted-is, given-back, frequency-back}
+use Rattle.rule.proofs.RefusalLaws.{accepting, none-given, all-kept}
 use Rattle.rule.proofs.FillLaws.{both, same-itself, fill-once}
 use Rattle.rule.proofs.ValueLaws.{length-set-of}
 use Rattle.rule.proofs.GivenLaws.{neither, empty-is, pairs-empty, both-lack, no-every, no-nth}
@@ -66,10 +67,6 @@ one-record q r e1 e2 e3 e4 e5 e6 h =
     whole
 
 -- A good record: its own raw rule yields it.
-accepting : (v : Verdict) → accepts v ≡ true → v ≡ Verdict.Accepted
-accepting (Verdict.Refused n) h = absurd (let z : _≡_ {A = ℕ} 0 1 = cc in omega arith)
-accepting Verdict.Accepted h = refl
-
 yields : (w : Raw) (r : Rule) → verdict w ≡ Verdict.Accepted → fill (given w) ≡ r → Yields w r
 unfolding checked answers
 yields w r a e = record { accepted = rw a; record-is = rw a e }
@@ -84,43 +81,7 @@ own-raw r h =
     let b = both (accepts (verdict (asRaw r))) _ h in
     yields (asRaw r) r (accepting (verdict (asRaw r)) (b .0)) (given-again r (b .1))
 
--- An accepted raw rule breaks no row, so what it gives breaks none.
-pub record Passed (w : Raw) : Type 0 where
-  pub freq : ltb 6 (w .freq) ≡ false
-  pub wkst : ltb 6 (w .wkst) ≡ false
-  pub start : ltb lastInstant (w .start) ≡ false
-  pub until : untilOut (w .until) ≡ false
-  pub entry : entryOut (w .lists) ≡ false
-  pub mixed : mixedDays (w .lists) ≡ false
-  pub nth : nthMisplaced (w .freq) (w .lists) ≡ false
-  pub positions : positionsAlone (w .lists) ≡ false
-
--- the first of two tests failed, and the second passed
-failed : (a b : Bool) → (not a && b) ≡ true → (a ≡ false) × (b ≡ true)
-failed true b e = absurd (let z : _≡_ {A = ℕ} 0 1 = cc in omega arith)
-failed false b e = (refl, e)
-
-passed : (w : Raw) → verdict w ≡ Verdict.Accepted → Passed w
-passed w e =
-    let a = failed (ltb 6 (w .freq)) _ (sym (accepts-is w) ∙ ap accepts e) in
-    let b = failed (ltb 6 (w .wkst)) _ (a .1) in
-    let c = failed (ltb lastInstant (w .start)) _ (b .1) in
-    let d = failed (untilOut (w .until)) _ (c .1) in
-    let f = failed (entryOut (w .lists)) _ (d .1) in
-    let g = failed (notRising (w .lists)) _ (f .1) in
-    let h = failed (mixedDays (w .lists)) _ (g .1) in
-    let i = failed (nthMisplaced (w .freq) (w .lists)) _ (h .1) in
-    record {
-      freq = a .0;
-      wkst = b .0;
-      start = c .0;
-      until = d .0;
-      entry = f .0;
-      mixed = h .0;
-      nth = i .0;
-      positions = not-true (positionsAlone (w .lists)) (i .1);
-    }
-
+-- An accepted raw rule is refused by no row, so what it gives breaks none.
 pub record InRange (l : RawLists) : Type 0 where
   pub bymonth : strays months (l .bymonth) ≡ false
   pub bymonthday : strays monthdays (l .bymonthday) ≡ false
@@ -189,7 +150,7 @@ abbrev daysOf : RawLists → List Bool
 daysOf l = setOf 749 (pairs (l .bydayn) (l .bydayw))
 
 module _ (l : RawLists) (z : InRange l) where
-  mixed-given : mixedDays l ≡ false → not (hasEvery (daysOf l) && hasNth (daysOf l)) ≡ true
+  mixed-given : mixedDays l ≡ false → (hasEvery (daysOf l) && hasNth (daysOf l)) ≡ false
   unfolding mixedDays
   mixed-given h =
       narrower (someEvery (l .bydayn)) (someNth (l .bydayn)) (hasEvery (daysOf l)) (hasNth (daysOf l))
@@ -198,7 +159,7 @@ module _ (l : RawLists) (z : InRange l) where
       h
 
   nth-given : (n : ℕ) → nthMisplaced n l ≡ false
-      → not (hasNth (daysOf l) && (not (isEmpty (setOf 106 (entries weeknos (l .byweekno)))) || ltb 1 n)) ≡ true
+      → (hasNth (daysOf l) && (not (isEmpty (setOf 106 (entries weeknos (l .byweekno)))) || ltb 1 n)) ≡ false
   unfolding nthMisplaced
   nth-given n h =
       rw (empty-is weeknos (l .byweekno) (z .byweekno))
@@ -208,13 +169,13 @@ module _ (l : RawLists) (z : InRange l) where
       h)
 
   alone-given : positionsAlone l ≡ false
-      → not (not (isEmpty (setOf 732 (entries positions (l .bysetpos))))
+      → (not (isEmpty (setOf 732 (entries positions (l .bysetpos))))
       && (isEmpty (setOf 12 (entries months (l .bymonth)))
       && ((isEmpty (setOf 106 (entries weeknos (l .byweekno)))
       && (isEmpty (setOf 732 (entries yeardays (l .byyearday)))
       && (isEmpty (setOf 62 (entries monthdays (l .bymonthday))) && isEmpty (setOf 749 (pairs (l .bydayn) (l .bydayw))))))
       && (isEmpty (setOf 24 (entries hours (l .byhour)))
-      && (isEmpty (setOf 60 (entries minutes (l .byminute))) && isEmpty (setOf 60 (entries seconds (l .bysecond)))))))) ≡ true
+      && (isEmpty (setOf 60 (entries minutes (l .byminute))) && isEmpty (setOf 60 (entries seconds (l .bysecond)))))))) ≡ false
   alone-given h =
       rw (
         empty-is positions (l .bysetpos) (z .bysetpos),
@@ -229,22 +190,22 @@ module _ (l : RawLists) (z : InRange l) where
         ← in-order (lacks (l .bymonth)) (lacks (l .bymonthday)) (lacks (l .byyearday)) (lacks (l .byweekno)) (lacks (l .bydayn))
             (lacks (l .byhour) && (lacks (l .byminute) && lacks (l .bysecond))),
       )
-      (ap not (rw (both-lack (l .bydayn) (l .bydayw) (z .bydays)) at h))
+      (rw (both-lack (l .bydayn) (l .bydayw) (z .bydays)) at h)
 
-all-pass : {a b c d e f : Bool} → a ≡ true → b ≡ true → c ≡ true → d ≡ true → e ≡ true → f ≡ true → ((a && (b && c)) && (d && (e && f))) ≡ true
-all-pass p q r s t u = rw (p, q, r, s, t, u)
-
-rows-given : (w : Raw) → Passed w → breaksNoRow (given w) ≡ true
-unfolding breaksNoRow given givenAs noOther noDays
-rows-given w p =
-    let z : InRange (w .lists) = in-range (w .lists) (p .entry) in
-    all-pass
-    (le-leb (w .wkst) 6 (ltb-false 6 (w .wkst) (p .wkst)))
-    (le-leb (w .start) lastInstant (ltb-false lastInstant (w .start) (p .start)))
-    (ap not (p .until))
-    (mixed-given (w .lists) z (p .mixed))
-    (nth-given (w .lists) z (frequencyNumber (frequency (w .freq))) (ap (λ (n : ℕ). nthMisplaced n (w .lists)) (number-back (w .freq) (p .freq)) ∙ p .nth))
-    (alone-given (w .lists) z (p .positions))
+module _ (w : Raw) (p : (n : Refusal) → applies n w ≡ false) where
+  rows-given : (n : Refusal) → breaks n (given w) ≡ false
+  unfolding given givenAs noOther noDays
+  rows-given Refusal.FrequencyAbove = refl
+  rows-given Refusal.WeekStartAbove = p Refusal.WeekStartAbove
+  rows-given Refusal.StartOut = p Refusal.StartOut
+  rows-given Refusal.UntilOut = p Refusal.UntilOut
+  rows-given Refusal.EntryOut = refl
+  rows-given Refusal.NotRising = refl
+  rows-given Refusal.MixedDays = mixed-given (w .lists) (in-range (w .lists) (p Refusal.EntryOut)) (p Refusal.MixedDays)
+  rows-given Refusal.NthMisplaced =
+      nth-given (w .lists) (in-range (w .lists) (p Refusal.EntryOut)) (frequencyNumber (frequency (w .freq)))
+      (ap (λ (n : ℕ). nthMisplaced n (w .lists)) (number-back (w .freq) (p Refusal.FrequencyAbove)) ∙ p Refusal.NthMisplaced)
+  rows-given Refusal.PositionsAlone = alone-given (w .lists) (in-range (w .lists) (p Refusal.EntryOut)) (p Refusal.PositionsAlone)
 
 -- So an accepted raw rule, filled in, is a good record.
 same-record : (r : Rule) → sameSets r r ≡ true
@@ -277,7 +238,9 @@ good-if r z h e =
 
 filled-good : (w : Raw) → verdict w ≡ Verdict.Accepted → yielded (fill (given w)) ≡ true
 filled-good w e =
-    good-if (fill (given w)) (fill-sized (given w) (given-sized w)) (fill-keeps (given w) (given-sized w) (rows-given w (passed w e))) (fill-once (given w))
+    good-if (fill (given w)) (fill-sized (given w) (given-sized w))
+    (all-kept (fill (given w)) (λ n. fill-keeps (given w) (given-sized w) n (rows-given w (none-given w .0 e) n)))
+    (fill-once (given w))
 
 answered : (v : Verdict) (q r : Rule) → answers v q .verdict ≡ Verdict.Accepted → answers v q .rule ≡ r → (v ≡ Verdict.Accepted) × (q ≡ r)
 unfolding answers

@@ -18,7 +18,7 @@ pub mod OneList
 pub mod Order
 pub mod RecordLaws
 pub mod RecordsComputed
-pub mod RowsListed
+pub mod RefusalLaws
 pub mod RuleLaws
 pub mod SetLaws
 pub mod Skipped

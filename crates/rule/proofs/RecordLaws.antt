@@ -2,53 +2,21 @@
 -- Assumes nothing.
 use mathlib.Core.Path.{_≡_, refl, ap, sym, _∙_}
 use mathlib.Core.Bool.{Bool, true, false, not, _&&_, _||_}
-use mathlib.Core.List.{map}
-use Prim.Native.Nat.{ℕ}
-use lib.Dec.{ltb, leb}
+use mathlib.Core.List.{List, [], _∷_, map}
+use lib.Dec.{ltb}
 use lib.ListN.{length, length-map}
-use borrow.Author.Tests.{eq-eqb, le-leb, lt-leb, ltb-true, ltb-false}
+use borrow.Author.Tests.{eq-eqb}
 use Rattle.rule.specs.declared.rrule.Frequency.{Frequency}
+use Rattle.rule.specs.declared.rrule.Refusal.{Refusal}
 use Rattle.rule.specs.declared.rrule.Rule.{Rule}
-use Rattle.rule.specs.Instants.{lastInstant}
 use Rattle.rule.specs.Lists.{months, monthdays, yeardays, weeknos, hours, minutes, seconds, positions, isEmpty}
-use Rattle.rule.specs.Raw.{Raw}
-use Rattle.rule.specs.Refusals.{untilOut, entryOut, notRising, mixedDays, nthMisplaced, positionsAlone, rows, tableOf, lowest, verdict}
+use Rattle.rule.specs.Refusals.{refusals, some, entryOut, notRising, mixedDays, nthMisplaced, positionsAlone, applies, verdict}
 use Rattle.rule.specs.Filling.{frequencyNumber, frequency, given, noDays}
-use Rattle.rule.specs.Records.{valueOf, slotsFrom, asRaw, accepts, hasEvery, hasNth, noOther, breaksNoRow, Sized}
+use Rattle.rule.specs.Records.{valueOf, slotsFrom, asRaw, accepts, hasEvery, hasNth, noOther, breaks, breaksNoRow, Sized}
+use Rattle.rule.proofs.RefusalLaws.{accepts-none}
 use Rattle.rule.proofs.RuleLaws.{ruleOf, given-by-parts}
 use Rattle.rule.proofs.ValueLaws.{lacks-values, values-stay, values-rise, values-set, nthAt, dayAt, nths-stay, days-stay, pairs-rise, pairs-set}
 use Rattle.rule.proofs.DayParts.{every-is, nth-is}
-
--- the check accepts where no row of the table applies
-abbrev pub noneOf : (frequency wkst start until entry order mixed nth positions : Bool) → Bool
-noneOf f w s u e o m n p = not f && (not w && (not s && (not u && (not e && (not o && (not m && (not n && not p)))))))
-
-accepts-lowest : (f w s u e o m n p : Bool) → accepts (lowest (rows f w s u e o m n p)) ≡ noneOf f w s u e o m n p
-unfolding lowest
-accepts-lowest true w s u e o m n p = refl
-accepts-lowest false true s u e o m n p = refl
-accepts-lowest false false true u e o m n p = refl
-accepts-lowest false false false true e o m n p = refl
-accepts-lowest false false false false true o m n p = refl
-accepts-lowest false false false false false true m n p = refl
-accepts-lowest false false false false false false true n p = refl
-accepts-lowest false false false false false false false true p = refl
-accepts-lowest false false false false false false false false true = refl
-accepts-lowest false false false false false false false false false = refl
-
-pub accepts-is : (w : Raw) → accepts (verdict w) ≡ noneOf (ltb 6 (w .freq)) (ltb 6 (w .wkst)) (ltb lastInstant (w .start)) (untilOut (w .until))
-    (entryOut (w .lists)) (notRising (w .lists)) (mixedDays (w .lists)) (nthMisplaced (w .freq) (w .lists)) (positionsAlone (w .lists))
-unfolding verdict tableOf
-accepts-is w =
-    accepts-lowest (ltb 6 (w .freq)) (ltb 6 (w .wkst)) (ltb lastInstant (w .start)) (untilOut (w .until))
-    (entryOut (w .lists)) (notRising (w .lists)) (mixedDays (w .lists)) (nthMisplaced (w .freq) (w .lists)) (positionsAlone (w .lists))
-
-pub not-above : (a b : ℕ) → not (ltb a b) ≡ leb b a
-not-above a b = go (ltb a b) refl
-  where
-    go : (t : Bool) → ltb a b ≡ t → not t ≡ leb b a
-    go true e = sym (lt-leb b a (ltb-true a b e))
-    go false e = sym (le-leb b a (ltb-false a b e))
 
 frequency-low : (f : Frequency) → ltb 6 (frequencyNumber f) ≡ false
 frequency-low Frequency.Yearly = refl
@@ -68,6 +36,12 @@ frequency-back Frequency.Daily = refl
 frequency-back Frequency.Hourly = refl
 frequency-back Frequency.Minutely = refl
 frequency-back Frequency.Secondly = refl
+
+-- two tests that agree pass the same entries
+some-same : {p q : Refusal → Bool} → ((n : Refusal) → p n ≡ q n) → (ns : List Refusal) → some p ns ≡ some q ns
+unfolding some
+some-same f [] = refl
+some-same f (n ∷ ns) = rw (f n, some-same f ns)
 
 -- the lists of row 9 in another order
 pub in-order : (m d y w b t : Bool) → (m && (d && (y && (w && (b && (b && t)))))) ≡ (m && ((w && (y && (d && b))) && t))
@@ -144,17 +118,22 @@ module _ (r : Rule) (z : Sized r) where
       (ap (λ (b : Bool). not (isEmpty (r .bysetpos)) && b)
       (in-order (isEmpty (r .bymonth)) (isEmpty (r .bymonthday)) (isEmpty (r .byyearday)) (isEmpty (r .byweekno)) (isEmpty (r .byday)) _))
 
+  -- each row, asked of the record instead
+  breaks-is : (n : Refusal) → applies n (asRaw r) ≡ breaks n r
+  unfolding asRaw
+  breaks-is Refusal.FrequencyAbove = frequency-low (r .freq)
+  breaks-is Refusal.WeekStartAbove = refl
+  breaks-is Refusal.StartOut = refl
+  breaks-is Refusal.UntilOut = refl
+  breaks-is Refusal.EntryOut = no-entry-out
+  breaks-is Refusal.NotRising = all-rise
+  breaks-is Refusal.MixedDays = mixed-is
+  breaks-is Refusal.NthMisplaced = misplaced-is
+  breaks-is Refusal.PositionsAlone = alone-is
+
   pub accepted-is : accepts (verdict (asRaw r)) ≡ breaksNoRow r
-  unfolding breaksNoRow asRaw
-  accepted-is =
-      accepts-is (asRaw r)
-      ∙ rw (no-entry-out, all-rise, mixed-is, misplaced-is, alone-is, frequency-low (r .freq), not-above 6 (r .wkst), not-above lastInstant (r .start))
-      (regroup (leb (r .wkst) 6) (leb (r .start) lastInstant) (not (untilOut (r .until))) _)
-    where
-      regroup : (a b c d : Bool) → (a && (b && (c && d))) ≡ ((a && (b && c)) && d)
-      regroup true true c d = refl
-      regroup true false c d = refl
-      regroup false b c d = refl
+  unfolding verdict breaksNoRow
+  accepted-is = accepts-none (λ (n : Refusal). applies n (asRaw r)) refusals ∙ ap not (some-same breaks-is refusals)
 
   pub given-back : given (asRaw r) ≡ r
   unfolding given asRaw

@@ -1,15 +1,16 @@
 -- What refusal 20 asks of a record, asked of its sets; and from the answers that the code has.
 -- Assumes nothing.
-use mathlib.Core.Path.{_≡_, ap, sym, _∙_}
-use mathlib.Core.Bool.{Bool, not, _&&_, _||_}
+use mathlib.Core.Path.{_≡_, refl, ap, sym, _∙_}
+use mathlib.Core.Bool.{Bool, true, false, not, _&&_, _||_, or-assoc}
 use Prim.Native.Nat.{ℕ}
-use lib.Dec.{ltb, leb}
+use lib.Dec.{ltb}
+use Rattle.rule.specs.declared.rrule.Refusal.{Refusal}
 use Rattle.rule.specs.declared.rrule.Rule.{Rule}
 use Rattle.rule.specs.Instants.{lastInstant}
 use Rattle.rule.specs.Lists.{isEmpty}
-use Rattle.rule.specs.Refusals.{untilOut}
+use Rattle.rule.specs.Refusals.{refusals, untilOut, some}
 use Rattle.rule.specs.Filling.{frequencyNumber, given, noDays, fill}
-use Rattle.rule.specs.Records.{asRaw, sameSets, yielded, hasEvery, hasNth, noOther, breaksNoRow, isUnfilled, Sized}
+use Rattle.rule.specs.Records.{asRaw, sameSets, yielded, hasEvery, hasNth, noOther, breaks, breaksNoRow, isUnfilled, Sized}
 use Rattle.rule.specs.Claims.{RecordsComputed}
 use Rattle.rule.proofs.DayParts.{empty-in-parts}
 use Rattle.rule.proofs.RecordLaws.{accepted-is, given-back}
@@ -24,10 +25,14 @@ records-computed r z =
     ∙ ap (λ (b : Bool). breaksNoRow r && b) (unfilled-is r z)
     )
 
+neither-is : (a b : Bool) → not (a || b) ≡ (not a && not b)
+neither-is true b = refl
+neither-is false b = refl
+
 -- from what the code has of each list: n is the frequency's number, and the others say which lists are empty
 pub record-by-parts : (r : Rule) → Sized r → {n : ℕ} {u every nth months monthdays yeardays weeknos hours minutes seconds positions : Bool}
     → n ≡ frequencyNumber (r .freq)
-    → u ≡ not (untilOut (r .until))
+    → u ≡ untilOut (r .until)
     → every ≡ hasEvery (r .byday)
     → nth ≡ hasNth (r .byday)
     → months ≡ isEmpty (r .bymonth)
@@ -39,12 +44,15 @@ pub record-by-parts : (r : Rule) → Sized r → {n : ℕ} {u every nth months m
     → seconds ≡ isEmpty (r .bysecond)
     → positions ≡ isEmpty (r .bysetpos)
     → let days : Bool = weeknos && (yeardays && (monthdays && not (every || nth))) in
-    (((leb (r .wkst) 6 && (leb (r .start) lastInstant && u))
-    && (not (every && nth)
-    && (not (nth && (not weeknos || ltb 1 n))
-    && not (not positions && (months && (days && (hours && (minutes && seconds))))))))
-    && not (days && ltb n 3 || (ltb n 4 && hours || (ltb n 5 && minutes || ltb n 6 && seconds))))
+    not (ltb 6 (r .wkst)
+    || ltb lastInstant (r .start)
+    || u
+    || every && nth
+    || nth && (not weeknos || ltb 1 n)
+    || not positions && (months && (days && (hours && (minutes && seconds))))
+    || (days && ltb n 3 || (ltb n 4 && hours || (ltb n 5 && minutes || ltb n 6 && seconds))))
     ≡ yielded r
-unfolding breaksNoRow isUnfilled noOther noDays
+unfolding some breaksNoRow isUnfilled noOther noDays
 record-by-parts r z en eu ee eh e1 e2 e3 e4 e5 e6 e7 e8 =
-    rw (en, eu, ee, eh, e1, e2, e3, e4, e5, e6, e7, e8, empty-in-parts (r .byday) (z .byday)) (records-computed r z)
+    rw (en, eu, ee, eh, e1, e2, e3, e4, e5, e6, e7, e8, empty-in-parts (r .byday) (z .byday))
+    (simp or-assoc (simp or-assoc at (neither-is (some (λ (n : Refusal). breaks n r) refusals) (isUnfilled r) ∙ records-computed r z)))

@@ -3,16 +3,20 @@
 use Prim.Native.Nat.{ℕ, _<_}
 use mathlib.Core.Path.{_≡_}
 use mathlib.Core.Logic.{_↔_}
-use mathlib.Core.Bool.{true, not, _&&_}
+use mathlib.Core.Bool.{true, false, not, _&&_}
+use mathlib.Core.List.{map}
 use lib.Dec.{ltb}
 use lib.IntN.{ℤ}
 use lib.Signed.{ltZ}
 use Rattle.rule.specs.declared.rrule.Range.{Range}
 use Rattle.rule.specs.declared.rrule.Slot.{Slot}
+use Rattle.machine.specs.Rising.{Rises}
+use Rattle.rule.specs.declared.rrule.Refusal.{Refusal}
+use Rattle.rule.specs.declared.rrule.Verdict.{Verdict}
 use Rattle.rule.specs.declared.rrule.Rule.{Rule}
 use Rattle.rule.specs.Lists.{slots, slotOf, pairSlot}
 use Rattle.rule.specs.Raw.{Raw}
-use Rattle.rule.specs.Refusals.{pairBelow}
+use Rattle.rule.specs.Refusals.{refusalNumber, refusals, pairBelow, applies, verdict}
 use Rattle.rule.specs.Filling.{fill, Yields}
 use Rattle.rule.specs.Records.{valueOf, yielded, breaksNoRow, isUnfilled, Sized}
 
@@ -30,6 +34,18 @@ SlotOrder = (g : Range) (a b : ℤ) (i j : ℕ) → slotOf g a ≡ Slot.At i →
 
 abbrev pub PairOrder : Type 0
 PairOrder = (n w m v : ℤ) (i j : ℕ) → pairSlot n w ≡ Slot.At i → pairSlot m v ≡ Slot.At j → pairBelow n w m v ≡ ltb i j
+
+-- The refusals stand in the order of their numbers, from 1 on and below 20, where a run's begin.
+abbrev pub RefusalsRise : Type 0
+RefusalsRise = Rises 1 (map refusalNumber refusals) 20
+
+-- The verdict is a refusal exactly when that one applies and none of a lower number does; the rule is accepted exactly when none applies.
+abbrev pub LowestGiven : Type 0
+LowestGiven = (w : Raw) (n : Refusal)
+    → (verdict w ≡ Verdict.Refused n) ↔ ((applies n w ≡ true) × ((m : Refusal) → refusalNumber m < refusalNumber n → applies m w ≡ false))
+
+abbrev pub NoneGiven : Type 0
+NoneGiven = (w : Raw) → (verdict w ≡ Verdict.Accepted) ↔ ((n : Refusal) → applies n w ≡ false)
 
 -- Filling in twice is filling in once.
 abbrev pub FillOnce : Type 0

@@ -1,4 +1,5 @@
--- How the code reads a list: an entry as a number without a sign, its slot, and a set marked entry by entry. Nothing but contracts leans on this.
+-- How the code reads a list: an entry as a number without a sign, its slot, and a set marked entry by entry; and how it comes to a verdict, row by
+-- row. Nothing but contracts leans on this.
 -- Assumes nothing.
 use Prim.Native.Nat.{ℕ, suc, _+_, _-_, _*_, _<_}
 use mathlib.Core.Path.{_≡_}
@@ -11,6 +12,8 @@ use lib.Signed.{mag}
 use Rattle.calendar.specs.Calendar.{if_then_else_}
 use Rattle.rule.specs.declared.rrule.Range.{Range}
 use Rattle.rule.specs.declared.rrule.Slot.{Slot}
+use Rattle.rule.specs.declared.rrule.Refusal.{Refusal}
+use Rattle.rule.specs.declared.rrule.Verdict.{Verdict}
 use Rattle.rule.specs.Lists.{within, zeros, nths, weekdays, beside, isEmpty, mark}
 
 -- a 16-bit value moved up by 32,768
@@ -41,3 +44,8 @@ pairBelowAt n w m v = ltb n m || (not (ltb m n) && ltb w v)
 unfoldable pub marks : List Bool → List Slot → List Bool
 marks s [] = s
 marks s (e ∷ es) = marks (mark s e) es
+
+-- the verdict of the rows before, or this row's refusal where they have none and it applies
+abbrev pub orRefused : Verdict → Refusal → Bool → Verdict
+orRefused (Verdict.Refused m) n b = Verdict.Refused m
+orRefused Verdict.Accepted n b = elim b [ true ↦ Verdict.Refused n | false ↦ Verdict.Accepted ]

@@ -4,7 +4,7 @@ use Prim.Native.Nat.{ℕ, _+_, _-_, _/_, _%_}
 use mathlib.Core.Path.{_≡_}
 use mathlib.Core.Bool.{Bool, true, false, not, _&&_, _||_, Bool·beq}
 use mathlib.Core.List.{List, [], _∷_, map}
-use lib.Dec.{ltb, leb}
+use lib.Dec.{ltb}
 use lib.ListN.{length, take, drop}
 use lib.IntN.{ℤ, pos, negsuc}
 use Rattle.calendar.specs.Calendar.{if_then_else_}
@@ -16,7 +16,7 @@ use Rattle.rule.specs.declared.rrule.Rule.{Rule}
 use Rattle.rule.specs.Instants.{lastInstant}
 use Rattle.rule.specs.Lists.{months, monthdays, yeardays, weeknos, nths, weekdays, hours, minutes, seconds, positions, isEmpty}
 use Rattle.rule.specs.Raw.{Raw}
-use Rattle.rule.specs.Refusals.{untilOut, verdict}
+use Rattle.rule.specs.Refusals.{refusals, untilOut, some, verdict}
 use Rattle.rule.specs.Filling.{frequencyNumber, isBelow, noDays, given, fill}
 
 -- the value of a slot
@@ -102,15 +102,6 @@ unfoldable pub noOther : Rule → Bool
 unfolding isEmpty noDays
 noOther r = isEmpty (r .bymonth) && (noDays r && (isEmpty (r .byhour) && (isEmpty (r .byminute) && isEmpty (r .bysecond))))
 
--- the rows of the table that a record can break: 2 to 4, and 7 to 9
-unfoldable pub breaksNoRow : Rule → Bool
-unfolding isEmpty hasEvery hasNth noOther
-breaksNoRow r =
-    (leb (r .wkst) 6 && (leb (r .start) lastInstant && not (untilOut (r .until))))
-    && (not (hasEvery (r .byday) && hasNth (r .byday))
-    && (not (hasNth (r .byday) && (not (isEmpty (r .byweekno)) || isBelow Frequency.Monthly (r .freq)))
-    && not (not (isEmpty (r .bysetpos)) && noOther r)))
-
 -- the rows of the table, asked of a record; 1, 5 and 6 are rows that none can break
 abbrev pub breaks : Refusal → Rule → Bool
 breaks Refusal.FrequencyAbove r = false
@@ -122,6 +113,10 @@ breaks Refusal.NotRising r = false
 breaks Refusal.MixedDays r = hasEvery (r .byday) && hasNth (r .byday)
 breaks Refusal.NthMisplaced r = hasNth (r .byday) && (not (isEmpty (r .byweekno)) || isBelow Frequency.Monthly (r .freq))
 breaks Refusal.PositionsAlone r = not (isEmpty (r .bysetpos)) && noOther r
+
+unfoldable pub breaksNoRow : Rule → Bool
+unfolding some isEmpty hasEvery hasNth noOther
+breaksNoRow r = not (some (λ n. breaks n r) refusals)
 
 -- filling in would change the record
 unfoldable pub isUnfilled : Rule → Bool

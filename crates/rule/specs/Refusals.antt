@@ -154,48 +154,6 @@ positionsAlone l =
     && (lacks (l .bymonth) && (lacks (l .bymonthday) && (lacks (l .byyearday) && (lacks (l .byweekno)
     && (lacks (l .bydayn) && (lacks (l .bydayw) && (lacks (l .byhour) && (lacks (l .byminute) && lacks (l .bysecond)))))))))
 
--- a row of the table: its refusal, and whether it applies
-pub data Row : Type 0 where
-  row : Refusal → Bool → Row
-
--- The table: given exactly when ..
-abbrev pub rows : (frequency wkst start until entry order mixed nth positions : Bool) → List Row
-rows frequency wkst start until entry order mixed nth positions =
-    row Refusal.FrequencyAbove frequency ∷
-    row Refusal.WeekStartAbove wkst ∷
-    row Refusal.StartOut start ∷
-    row Refusal.UntilOut until ∷
-    row Refusal.EntryOut entry ∷
-    row Refusal.NotRising order ∷
-    row Refusal.MixedDays mixed ∷
-    row Refusal.NthMisplaced nth ∷
-    row Refusal.PositionsAlone positions ∷
-    []
-
--- each row judged by itself
-unfoldable pub tableOf : (freq wkst start : ℕ) → Until → RawLists → List Row
-unfolding entryOut notRising mixedDays nthMisplaced
-tableOf freq wkst start until l =
-    rows
-    (ltb 6 freq)
-    (ltb 6 wkst)
-    (ltb lastInstant start)
-    (untilOut until)
-    (entryOut l)
-    (notRising l)
-    (mixedDays l)
-    (nthMisplaced freq l)
-    (positionsAlone l)
-
--- the first row that applies
-unfoldable pub lowest : List Row → Verdict
-lowest [] = Verdict.Accepted
-lowest (row n b ∷ rows) = elim b [ true ↦ Verdict.Refused n | false ↦ lowest rows ]
-
-unfoldable pub verdict : Raw → Verdict
-unfolding lowest tableOf
-verdict w = lowest (tableOf (w .freq) (w .wkst) (w .start) (w .until) (w .lists))
-
 -- The table: each row judged by itself on the rule as given.
 abbrev pub applies : Refusal → Raw → Bool
 applies Refusal.FrequencyAbove w = ltb 6 (w .freq)
@@ -212,3 +170,8 @@ applies Refusal.PositionsAlone w = positionsAlone (w .lists)
 unfoldable pub firstOf : (Refusal → Bool) → List Refusal → Verdict
 firstOf p [] = Verdict.Accepted
 firstOf p (n ∷ ns) = elim (p n) [ true ↦ Verdict.Refused n | false ↦ firstOf p ns ]
+
+-- The lowest number that applies is given, and none otherwise (Claims, LowestGiven and NoneGiven).
+unfoldable pub verdict : Raw → Verdict
+unfolding firstOf entryOut notRising mixedDays nthMisplaced
+verdict w = firstOf (λ n. applies n w) refusals

@@ -26,7 +26,8 @@ use rule::rrule::Verdict;
 ghost use mathlib.Core.Path.{_≡_};
 ghost use Rattle.rule.specs.Raw.{raw, rawLists};
 ghost use Rattle.rule.specs.Filling.{frequency, givenAs, blank, checked};
-ghost use Rattle.rule.specs.Refusals.{untilOut, entryOut, notRising, mixedDays, nthMisplaced, positionsAlone, lowest, rows, tableOf};
+ghost use Rattle.rule.specs.Refusals.{untilOut, entryOut, notRising, positionsAlone, verdict};
+ghost use Rattle.rule.specs.Entries.{orRefused};
 
 // The first instant after 9999.
 const RANGE_END: u64 = 253402300800;
@@ -94,48 +95,17 @@ fn not_rising(
         | !is_rising(bysetpos)
 }
 
-// The lowest refusal of those that apply, in the table's order.
-fn lowest_of(
-    frequency: bool,
-    wkst: bool,
-    start: bool,
-    until: bool,
-    entry: bool,
-    order: bool,
-    mixed: bool,
-    nth: bool,
-    positions: bool,
-) -> Verdict
-    ensures { λ r. ⌜ r ≡ lowest (rows frequency wkst start until entry order mixed nth positions) ⌝ }
+// The verdict of the rows before; where they have no refusal, this row's, if it applies.
+fn or_refused(verdict: Verdict, refusal: Refusal, applies: bool) -> Verdict
+    ensures { λ r. ⌜ r ≡ orRefused verdict refusal applies ⌝ }
 {
-    if frequency {
-        return Verdict::Refused(Refusal::FrequencyAbove);
+    let Verdict::Accepted = verdict else {
+        return verdict;
+    };
+    if applies {
+        return Verdict::Refused(refusal);
     }
-    if wkst {
-        return Verdict::Refused(Refusal::WeekStartAbove);
-    }
-    if start {
-        return Verdict::Refused(Refusal::StartOut);
-    }
-    if until {
-        return Verdict::Refused(Refusal::UntilOut);
-    }
-    if entry {
-        return Verdict::Refused(Refusal::EntryOut);
-    }
-    if order {
-        return Verdict::Refused(Refusal::NotRising);
-    }
-    if mixed {
-        return Verdict::Refused(Refusal::MixedDays);
-    }
-    if nth {
-        return Verdict::Refused(Refusal::NthMisplaced);
-    }
-    if positions {
-        return Verdict::Refused(Refusal::PositionsAlone);
-    }
-    Verdict::Accepted
+    verdict
 }
 
 // The record as it is given, before filling in: the sets of the lists.
@@ -246,12 +216,15 @@ fn positions_alone(
                                     & ((byminute.len() == 0) & (bysecond.len() == 0)))))))))
 }
 
-// The verdict: the table's rows, each judged by itself, and the lowest that applies.
+// The verdict: the table's rows in their order, each judged by itself, and the first that applies. All of the rule is handed over, whether a row asks for
+// it or not.
 fn verdict_of(
     freq: u8,
+    interval: u16,
+    count: Count,
+    until: Until,
     wkst: u8,
     start: u64,
-    until: Until,
     bymonth: &[i16],
     bymonthday: &[i16],
     byyearday: &[i16],
@@ -263,7 +236,7 @@ fn verdict_of(
     bysecond: &[i16],
     bysetpos: &[i16],
 ) -> Verdict
-    ensures { λ r. ⌜ r ≡ lowest (tableOf freq wkst start until (rawLists (now (bymonth .entry)) (now (bymonthday .entry)) (now (byyearday .entry)) (now (byweekno .entry)) (now (bydayn .entry)) (now (bydayw .entry)) (now (byhour .entry)) (now (byminute .entry)) (now (bysecond .entry)) (now (bysetpos .entry)))) ⌝ }
+    ensures { λ r. ⌜ r ≡ verdict (raw freq interval count until wkst start (rawLists (now (bymonth .entry)) (now (bymonthday .entry)) (now (byyearday .entry)) (now (byweekno .entry)) (now (bydayn .entry)) (now (bydayw .entry)) (now (byhour .entry)) (now (byminute .entry)) (now (bysecond .entry)) (now (bysetpos .entry)))) ⌝ }
 {
     let entry = entry_out(
         bymonth,
@@ -305,17 +278,17 @@ fn verdict_of(
     let mixed = has_every(bydayn) & nth;
     let misplaced = nth & ((byweekno.len() != 0) | (1 < freq));
     let until = until_out(until);
-    lowest_of(
-        6 < freq,
-        6 < wkst,
-        RANGE_END <= start,
-        until,
-        entry,
-        order,
-        mixed,
-        misplaced,
-        alone,
-    )
+    let mut verdict = Verdict::Accepted;
+    verdict = or_refused(verdict, Refusal::FrequencyAbove, 6 < freq);
+    verdict = or_refused(verdict, Refusal::WeekStartAbove, 6 < wkst);
+    verdict = or_refused(verdict, Refusal::StartOut, RANGE_END <= start);
+    verdict = or_refused(verdict, Refusal::UntilOut, until);
+    verdict = or_refused(verdict, Refusal::EntryOut, entry);
+    verdict = or_refused(verdict, Refusal::NotRising, order);
+    verdict = or_refused(verdict, Refusal::MixedDays, mixed);
+    verdict = or_refused(verdict, Refusal::NthMisplaced, misplaced);
+    verdict = or_refused(verdict, Refusal::PositionsAlone, alone);
+    verdict
 }
 
 // What stands for the record of a refused check.
@@ -373,9 +346,11 @@ pub fn check(
 {
     let verdict = verdict_of(
         freq,
+        interval,
+        count,
+        until,
         wkst,
         start,
-        until,
         bymonth,
         bymonthday,
         byyearday,

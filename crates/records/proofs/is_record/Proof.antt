@@ -9,8 +9,8 @@ use Rattle.records.proofs.is_record.Tie as tie
 frequency-number-requires : tie.Need-frequency-number-requires
 frequency-number-requires c κs = search needs
 
-until-in-requires : tie.Need-until-in-requires
-until-in-requires c κs = search needs
+until-out-requires : tie.Need-until-out-requires
+until-out-requires c κs = search needs
 
 has-every-requires : tie.Need-has-every-requires
 has-every-requires c κs = search needs
@@ -67,7 +67,7 @@ returns c =
       bysecond = bysecond .before .is-empty-arg14 .given .0;
       bysetpos = c .before .is-empty-arg16 .given .0;
     } in
-    record-by-parts (start .args .t1) sized (frequency .frequency-number .ensures) (until .until-in .ensures) (every .has-every .ensures)
+    record-by-parts (start .args .t1) sized (frequency .frequency-number .ensures) (until .until-out .ensures) (every .has-every .ensures)
     (nth .has-nth .ensures) (bymonth .is-empty .ensures) (bymonthday .is-empty2 .ensures) (byyearday .is-empty3 .ensures)
     (byweekno .is-empty4 .ensures) (byhour .is-empty5 .ensures) (byminute .is-empty6 .ensures) (bysecond .is-empty7 .ensures) (c .is-empty8 .ensures)
 
@@ -76,7 +76,7 @@ is-record-spec =
     tie.close
     (tie.spec
     frequency-number-requires
-    until-in-requires
+    until-out-requires
     has-every-requires
     has-nth-requires
     is-empty-requires

@@ -30,7 +30,7 @@ given-rule-requires c κs = search needs
 
 filled-requires : tie.Need-filled-requires
 unfolding givenAs
-filled-requires c κs = rw (c .given-rule .ensures) (start-in-range _ _ _ _ _ (sym (c .before .before .before .before .verdict-of .ensures) ∙ c .before .before .enum-told .given .1))
+filled-requires c κs = rw (c .given-rule .ensures) (start-in-range _ (sym (c .before .before .before .before .verdict-of .ensures) ∙ c .before .before .enum-told .given .1))
 
 returns-2 : tie.Need-returns-2
 returns-2 c = accepted _ _ _ _ _ (c .before .before .before .before .before .verdict-of .ensures) (c .before .before .before .enum-told .given .1) (c .before .before .frequency-of .ensures) (c .before .given-rule .ensures) (c .filled .ensures)
