@@ -15,13 +15,13 @@ use Rattle.rule.specs.Records.{slotsFrom, hasEvery, hasNth}
 use Rattle.rule.proofs.ValueLaws.{nthAt, some-never, some-always, some-append}
 
 -- n of a slot is 0 in the middle part and nowhere else
-pub zero-low : (j : ℕ) → j < 371 → isZero (nthAt j) ≡ false
+zero-low : (j : ℕ) → j < 371 → isZero (nthAt j) ≡ false
 zero-low j h = rw (lt-ltb (j / 7) 53 (omega arith))
 
-pub zero-middle : (j : ℕ) → 371 ≤ j → j < 378 → isZero (nthAt j) ≡ true
+zero-middle : (j : ℕ) → 371 ≤ j → j < 378 → isZero (nthAt j) ≡ true
 zero-middle j h k = let e : j / 7 ≡ 53 = omega arith in rw e
 
-pub zero-high : (j : ℕ) → 378 ≤ j → isZero (nthAt j) ≡ false
+zero-high : (j : ℕ) → 378 ≤ j → isZero (nthAt j) ≡ false
 zero-high j h = rw (le-ltb (j / 7) 53 (omega arith)) (ne-eqb (j / 7 - 53) 0 (λ (e : j / 7 - 53 ≡ 0). omega arith))
 
 module _ (s : List Bool) (sized : length s ≡ 749) where

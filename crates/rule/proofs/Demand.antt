@@ -25,7 +25,7 @@ use Rattle.rule.specs.Instants.{second, instant, lastInstant, rangeEnd}
 use Rattle.rule.specs.Refusals.{verdict}
 use Rattle.rule.specs.Raw.{Raw}
 use Rattle.rule.specs.Filling.{given, fill, answers, checked, Yields}
-use Rattle.rule.specs.Records.{asRaw, accepts, yielded}
+use Rattle.rule.specs.Records.{asRaw, yielded}
 use Rattle.rule.specs.Periods.{period, inRange}
 use Rattle.rule.specs.Candidates.{Kept, kept}
 use Rattle.rule.specs.Satisfies.{NotAfter, Satisfies}

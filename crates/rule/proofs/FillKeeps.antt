@@ -49,7 +49,7 @@ fill-sized r z =
     (sized-by r (second (r .start)) (frequencyNumber (r .freq)) (dateOf (second (r .start) / 86400)) (noDays r) z)
 
 -- a test that is not wider than another that fails
-pub narrower : (a b x y : Bool) → (x ≡ true → a ≡ true) → (y ≡ true → b ≡ true) → (a && b) ≡ false → (x && y) ≡ false
+narrower : (a b x y : Bool) → (x ≡ true → a ≡ true) → (y ≡ true → b ≡ true) → (a && b) ≡ false → (x && y) ≡ false
 narrower a b true true f g h = let p : a ≡ true = f refl in let q : b ≡ true = g refl in absurd (let z : _≡_ {A = ℕ} 0 1 = cc in omega arith)
 narrower a b true false f g h = refl
 narrower a b false y f g h = refl

@@ -1,51 +1,84 @@
--- The sets of lists whose entries lie in their ranges: each is empty where its list is, and BYDAY's parts have only what its list has.
+-- Lists whose entries lie in their ranges and rise are read back from their sets.
 -- Assumes nothing.
-use mathlib.Core.Path.{_≡_, refl, ap, _∙_}
-use mathlib.Core.Bool.{Bool, true, false, not, _||_}
-use mathlib.Core.List.{List, [], _∷_}
-use Prim.Native.Nat.{ℕ, zero, suc, _+_, _*_, _/_, _≤_, _<_}
+use mathlib.Core.Path.{_≡_, refl, ap, sym, _∙_, subst}
+use mathlib.Core.Bool.{Bool, true, false, _||_}
+use mathlib.Core.List.{List, [], _∷_, map}
+use Prim.Native.Nat.{ℕ, zero, suc, _+_, _*_, _/_, _%_, _≤_, _<_}
 use native.Mathlib.Omega.{arith}
 use lib.Dec.{eqb}
-use lib.ListN.{length, getD, take, drop, length-drop}
-use lib.Seq.{length-take-le, getD-take, getD-drop}
+use lib.ListN.{length}
 use lib.IntN.{ℤ}
-use borrow.Author.Tests.{eq-eqb, eqb-true}
+use lib.Signed.{ltZ}
+use borrow.Author.Tests.{eqb-true, eqb-false, ne-eqb, ltb-true}
+use Rattle.machine.specs.Rising.{Rises}
 use Rattle.rule.specs.declared.rrule.Range.{Range}
 use Rattle.rule.specs.declared.rrule.Slot.{Slot}
-use Rattle.rule.specs.Lists.{slots, slotOf, nths, weekdays, pairSlot, isEmpty, is, someAt, setOf}
+use Rattle.rule.specs.Lists.{slots, slotOf, nths, weekdays, pairSlot, flags, someAt, setOf}
 use Rattle.rule.specs.Raw.{entries, pairs}
-use Rattle.rule.specs.Refusals.{lacks, some, isOutside, strays, isZero, isNth, someEvery, someNth}
-use Rattle.rule.specs.Records.{valueOf, hasEvery, hasNth}
-use Rattle.rule.proofs.SlotLaws.{slot-low, value-of-its-slot, halves}
-use Rattle.rule.proofs.ValueLaws.{length-set-of, set-of-at, nthAt}
-use Rattle.rule.proofs.DayParts.{zero-low, zero-middle, zero-high}
+use Rattle.rule.specs.Refusals.{some, isOutside, strays, risesFrom, rises, pairBelow, pairsRiseFrom, pairsRise}
+use Rattle.rule.specs.Records.{valueOf, slotsFrom, values}
+use Rattle.rule.proofs.SlotLaws.{slot-low, value-of-its-slot, slot-order, halves, pair-order}
+use Rattle.rule.proofs.ValueLaws.{nthAt, dayAt}
 
 -- neither of two tests passed
 pub neither : (a b : Bool) → (a || b) ≡ false → (a ≡ false) × (b ≡ false)
 neither true b e = absurd (let z : _≡_ {A = ℕ} 0 1 = cc in omega arith)
 neither false b e = (refl, e)
 
--- a set with no flag is empty, and one with a flag is not
-flagless : (s : List Bool) → ((i : ℕ) → i < length s → getD s i false ≡ false) → isEmpty s ≡ true
-unfolding isEmpty
-flagless [] h = refl
-flagless (true ∷ bs) h = let e : true ≡ false = h 0 (omega arith) in absurd (let z : _≡_ {A = ℕ} 0 1 = cc in omega arith)
-flagless (false ∷ bs) h = flagless bs (λ i l. h (suc i) (omega arith))
+-- the first of two tests passed, and what it opens
+passes-on : (a b : Bool) → elim a [ true ↦ b | false ↦ false ] ≡ true → (a ≡ true) × (b ≡ true)
+passes-on true b e = (refl, e)
+passes-on false b e = absurd (let z : _≡_ {A = ℕ} 0 1 = cc in omega arith)
 
-flagged : (s : List Bool) (i : ℕ) → getD s i false ≡ true → isEmpty s ≡ false
-unfolding isEmpty
-flagged [] i e = absurd (let z : _≡_ {A = ℕ} 0 1 = cc in omega arith)
-flagged (true ∷ bs) i e = refl
-flagged (false ∷ bs) zero e = absurd (let z : _≡_ {A = ℕ} 0 1 = cc in omega arith)
-flagged (false ∷ bs) (suc i) e = flagged bs i e
+-- Slots that rise are the slots of their set.
+begins : (low : ℕ) (xs : List ℕ) (high : ℕ) → Rises low xs high → low ≤ high
+begins low [] high h = h
+begins low (x ∷ xs) high h = let l = begins (suc x) xs high (h .1) in let k : low ≤ x = h .0 in omega arith
 
-none-empty : (n : ℕ) → isEmpty (setOf n []) ≡ true
+lower : (low a : ℕ) (xs : List ℕ) (high : ℕ) → a ≤ low → Rises low xs high → Rises a xs high
+lower low a [] high l h = omega arith
+lower low a (x ∷ xs) high l h = let k : low ≤ x = h .0 in (omega arith, h .1)
+
+not-yet : (i low : ℕ) (xs : List ℕ) (high : ℕ) → i < low → Rises low xs high → someAt i (map Slot.At xs) ≡ false
 unfolding someAt
-none-empty n = flagless (setOf n []) (λ i h. set-of-at n [] i (let l : length (setOf n []) ≡ n = length-set-of n [] in omega arith))
+not-yet i low [] high l h = refl
+not-yet i low (x ∷ xs) high l h =
+    let k : low ≤ x = h .0 in
+    rw (ne-eqb i x (λ (e : i ≡ x). omega arith)) (not-yet i (suc x) xs high (omega arith) (h .1))
 
-first-full : (n i : ℕ) (e : Slot) (es : List Slot) → i < n → e ≡ Slot.At i → isEmpty (setOf n (e ∷ es)) ≡ false
-unfolding someAt
-first-full n i e es h p = flagged (setOf n (e ∷ es)) i (set-of-at n (e ∷ es) i h ∙ rw (p, eq-eqb i i refl))
+slots-back : (f : ℕ → Bool) (n i : ℕ) (xs : List ℕ) → Rises i xs (i + n) → ((k : ℕ) → i ≤ k → f k ≡ someAt k (map Slot.At xs))
+    → slotsFrom i (flags f n i) ≡ xs
+unfolding slotsFrom flags someAt
+slots-back f zero i [] h e = refl
+slots-back f zero i (x ∷ xs) h e = absurd (let l = begins (suc x) xs (i + 0) (h .1) in let k : i ≤ x = h .0 in omega arith)
+slots-back f (suc n) i [] h e = rw (e i (omega arith), slotsFrom) (slots-back f n (i + 1) [] (omega arith) (λ k l. e k (omega arith)))
+slots-back f (suc n) i (x ∷ xs) h e = go (eqb i x) refl (slots-back f n (i + 1))
+  where
+    low : i ≤ x
+    low = h .0
+
+    sum : i + suc n ≡ i + 1 + n
+    sum = omega arith
+
+    go : (t : Bool) → eqb i x ≡ t
+        → ((ys : List ℕ) → Rises (i + 1) ys (i + 1 + n) → ((k : ℕ) → i + 1 ≤ k → f k ≡ someAt k (map Slot.At ys)) → slotsFrom (i + 1) (flags f n (i + 1)) ≡ ys)
+        → slotsFrom i (f i ∷ flags f n (i + 1)) ≡ x ∷ xs
+    go true q again =
+        let s : i ≡ x = eqb-true i x q in
+        rw (e i (omega arith), q, slotsFrom)
+        (ap (λ (j : ℕ). j ∷ slotsFrom (i + 1) (flags f n (i + 1))) s
+        ∙ ap (λ (l : List ℕ). x ∷ l)
+        (again xs (subst (λ (m : ℕ). Rises (i + 1) xs m) sum (lower (suc x) (i + 1) xs (i + suc n) (omega arith) (h .1)))
+        (λ k l. e k (omega arith) ∙ ap (λ (b : Bool). b || someAt k (map Slot.At xs)) (ne-eqb k x (λ (z : k ≡ x). omega arith)))))
+    go false q again =
+        let d : i < x = let z : i ≡ x → ⊥ = eqb-false i x q in omega arith in
+        rw (e i (omega arith), q, not-yet i (suc x) xs (i + suc n) (omega arith) (h .1), slotsFrom)
+        (again (x ∷ xs) (omega arith, subst (λ (m : ℕ). Rises (suc x) xs m) sum (h .1)) (λ k l. e k (omega arith)))
+
+set-back : (n : ℕ) (xs : List ℕ) → Rises 0 xs n → slotsFrom 0 (setOf n (map Slot.At xs)) ≡ xs
+unfolding setOf
+set-back n xs h =
+    slots-back (λ (i : ℕ). someAt i (map Slot.At xs)) n 0 xs (subst (λ (m : ℕ). Rises 0 xs m) (let z : n ≡ 0 + n = omega arith in z) h) (λ k l. refl)
 
 -- an entry in its range has a slot
 pub record Placed (g : Range) (v : ℤ) : Type 0 where
@@ -59,91 +92,115 @@ placed g v h = go (slotOf g v) refl h
     go (Slot.At i) p q = record { i = i; slot = p }
     go Slot.Outside p q = absurd (let z : _≡_ {A = ℕ} 0 1 = cc in omega arith)
 
-pub empty-is : (g : Range) (l : List ℤ) → strays g l ≡ false → isEmpty (setOf (slots g) (entries g l)) ≡ lacks l
-unfolding strays some
-empty-is g [] h = none-empty (slots g)
-empty-is g (x ∷ xs) h =
-    let p = placed g x (neither (isOutside (slotOf g x)) (strays g xs) h .0) in
-    first-full (slots g) (p .i) (slotOf g x) (entries g xs) (slot-low g x (p .i) (p .slot)) (p .slot)
+-- A list's slots rise from low on, and its entries are their values.
+pub record Slotted (g : Range) (low : ℕ) (l : List ℤ) : Type 0 where
+  pub at : List ℕ
+  pub slots-are : entries g l ≡ map Slot.At at
+  pub rise : Rises low at (slots g)
+  pub back : map (valueOf g) at ≡ l
 
-pair-at : (n w : ℤ) (a b : ℕ) → slotOf nths n ≡ Slot.At a → slotOf weekdays w ≡ Slot.At b → pairSlot n w ≡ Slot.At (a * 7 + b)
+slotted-next : (g : Range) (x : ℤ) (xs : List ℤ) (low j : ℕ) → low ≤ j → slotOf g x ≡ Slot.At j → Slotted g (suc j) xs → Slotted g low (x ∷ xs)
+slotted-next g x xs low j l s t = record {
+  at = j ∷ t .at;
+  slots-are = rw (s, t .slots-are);
+  rise = (l, t .rise);
+  back = rw (value-of-its-slot g x j s, t .back);
+}
+
+slotted-from : (g : Range) (a : ℤ) (i : ℕ) (l : List ℤ) → slotOf g a ≡ Slot.At i → strays g l ≡ false → risesFrom a l ≡ true → Slotted g (suc i) l
+unfolding strays some risesFrom
+slotted-from g a i [] s h r = record { at = []; slots-are = refl; rise = slot-low g a i s; back = refl }
+slotted-from g a i (x ∷ xs) s h r =
+    let b = neither (isOutside (slotOf g x)) (strays g xs) h in
+    let p = placed g x (b .0) in
+    let c = passes-on (ltZ a x) (risesFrom x xs) r in
+    slotted-next g x xs (suc i) (p .i) (ltb-true i (p .i) (sym (slot-order g a x i (p .i) s (p .slot)) ∙ c .0)) (p .slot)
+    (slotted-from g x (p .i) xs (p .slot) (b .1) (c .1))
+
+slotted : (g : Range) (l : List ℤ) → strays g l ≡ false → rises l ≡ true → Slotted g 0 l
+unfolding strays some rises
+slotted g [] h r = record { at = []; slots-are = refl; rise = omega arith; back = refl }
+slotted g (x ∷ xs) h r =
+    let b = neither (isOutside (slotOf g x)) (strays g xs) h in
+    let p = placed g x (b .0) in
+    slotted-next g x xs 0 (p .i) (omega arith) (p .slot) (slotted-from g x (p .i) xs (p .slot) (b .1) r)
+
+pub list-back : (g : Range) (l : List ℤ) → strays g l ≡ false → rises l ≡ true → values g (setOf (slots g) (entries g l)) ≡ l
+list-back g l h r =
+    let t = slotted g l h r in
+    ap (λ (es : List Slot). values g (setOf (slots g) es)) (t .slots-are) ∙ ap (map (valueOf g)) (set-back (slots g) (t .at) (t .rise)) ∙ t .back
+
+-- The same of BYDAY's pairs.
+pub record PairPlaced (n w : ℤ) : Type 0 where
+  pub i : ℕ
+  pub slot : pairSlot n w ≡ Slot.At i
+
+pair-placed : (n w : ℤ) → isOutside (slotOf nths n) ≡ false → isOutside (slotOf weekdays w) ≡ false → PairPlaced n w
 unfolding pairSlot
-pair-at n w a b p q = rw (p, q)
+pair-placed n w h k =
+    let p = placed nths n h in
+    let q = placed weekdays w k in
+    record { i = p .i * 7 + q .i; slot = rw (p .slot, q .slot) }
 
-pub pairs-empty : (ns ws : List ℤ) → length ns ≡ length ws → strays nths ns ≡ false → strays weekdays ws ≡ false
-    → isEmpty (setOf 749 (pairs ns ws)) ≡ lacks ns
-unfolding strays some pairs
-pairs-empty [] ws e h k = none-empty 749
-pairs-empty (n ∷ ns) [] e h k = absurd (omega arith)
-pairs-empty (n ∷ ns) (w ∷ ws) e h k =
-    let p = placed nths n (neither (isOutside (slotOf nths n)) (strays nths ns) h .0) in
-    let q = placed weekdays w (neither (isOutside (slotOf weekdays w)) (strays weekdays ws) k .0) in
-    let a : p .i < 107 = slot-low nths n (p .i) (p .slot) in
-    let b : q .i < 7 = slot-low weekdays w (q .i) (q .slot) in
-    first-full 749 (p .i * 7 + q .i) (pairSlot n w) (pairs ns ws) (omega arith) (pair-at n w (p .i) (q .i) (p .slot) (q .slot))
+pair-low : (n w : ℤ) (i : ℕ) → pairSlot n w ≡ Slot.At i → i < 749
+pair-low n w i e =
+    let h = halves n w i e in
+    let a : h .a < 107 = slot-low nths n (h .a) (h .first) in
+    omega (arith, h .slot, h .short)
 
-pub both-lack : (ns ws : List ℤ) → length ns ≡ length ws → lacks ws ≡ lacks ns
-both-lack [] [] e = refl
-both-lack [] (w ∷ ws) e = absurd (omega arith)
-both-lack (n ∷ ns) [] e = absurd (omega arith)
-both-lack (n ∷ ns) (w ∷ ws) e = refl
-
--- n of a pair's slot is its n
-nth-back : (n w : ℤ) (j : ℕ) → pairSlot n w ≡ Slot.At j → nthAt j ≡ n
-nth-back n w j e =
+pair-back : (n w : ℤ) (j : ℕ) → pairSlot n w ≡ Slot.At j → (nthAt j ≡ n) × (dayAt j ≡ w)
+pair-back n w j e =
     let h = halves n w j e in
-    ap (valueOf nths) (let d : j / 7 ≡ h .a = omega arith in d) ∙ value-of-its-slot nths n (h .a) (h .first)
-
--- a slot whose n passes a test holds no pair, where no pair's n passes it
-module _ (p : ℤ → Bool) (k : ℕ) (passes : p (nthAt k) ≡ true) where
-  not-here : (n w : ℤ) → p n ≡ false → is k (pairSlot n w) ≡ false
-  not-here n w h = go (pairSlot n w) refl
-    where
-      go : (e : Slot) → pairSlot n w ≡ e → is k e ≡ false
-      go Slot.Outside q = refl
-      go (Slot.At j) q = at (eqb k j) refl
-        where
-          at : (t : Bool) → eqb k j ≡ t → t ≡ false
-          at true e =
-              let same : p (nthAt k) ≡ p n = ap (λ (i : ℕ). p (nthAt i)) (eqb-true k j e) ∙ ap p (nth-back n w j q) in
-              absurd (let z : _≡_ {A = ℕ} 0 1 = cc in omega arith)
-          at false e = refl
-
-  nowhere : (ns ws : List ℤ) → some p ns ≡ false → someAt k (pairs ns ws) ≡ false
-  unfolding some pairs someAt
-  nowhere [] ws h = refl
-  nowhere (n ∷ ns) [] h = refl
-  nowhere (n ∷ ns) (w ∷ ws) h =
-      let b = neither (p n) (some p ns) h in
-      rw (not-here n w (b .0)) (nowhere ns ws (b .1))
-
--- a part of BYDAY's set whose slots pass a test is empty, where no pair's n passes it
-part-empty : (p : ℤ → Bool) (a n : ℕ) (ns ws : List ℤ) → a + n ≤ 749 → ((k : ℕ) → a ≤ k → k < a + n → p (nthAt k) ≡ true) → some p ns ≡ false
-    → isEmpty (take n (drop a (setOf 749 (pairs ns ws)))) ≡ true
-part-empty p a n ns ws h passes none =
-    flagless (take n (drop a s)) (λ i l. at i (let e : length (take n (drop a s)) ≡ n = long in omega arith))
-  where
-    s : List Bool
-    s = setOf 749 (pairs ns ws)
-
-    long : length (take n (drop a (setOf 749 (pairs ns ws)))) ≡ n
-    long = length-take-le n (drop a (setOf 749 (pairs ns ws))) (simp (length-drop, length-set-of) (omega arith))
-
-    at : (i : ℕ) → i < n → getD (take n (drop a (setOf 749 (pairs ns ws)))) i false ≡ false
-    at i l =
-        getD-take n (drop a (setOf 749 (pairs ns ws))) i false l
-        ∙ getD-drop a (setOf 749 (pairs ns ws)) i false
-        ∙ set-of-at 749 (pairs ns ws) (a + i) (omega arith)
-        ∙ nowhere p (a + i) (passes (a + i) (omega arith) (omega arith)) ns ws none
-
-pub no-every : (ns ws : List ℤ) → someEvery ns ≡ false → hasEvery (setOf 749 (pairs ns ws)) ≡ false
-unfolding someEvery hasEvery
-no-every ns ws h = ap not (part-empty isZero 371 7 ns ws (omega arith) zero-middle h)
-
-pub no-nth : (ns ws : List ℤ) → someNth ns ≡ false → hasNth (setOf 749 (pairs ns ws)) ≡ false
-unfolding someNth hasNth
-no-nth ns ws h =
-    rw (
-      part-empty isNth 0 371 ns ws (omega arith) (λ k a b. ap not (zero-low k b)) h,
-      part-empty isNth 378 371 ns ws (omega arith) (λ k a b. ap not (zero-high k a)) h,
+    let b : h .b < 7 = h .short in (
+      ap (valueOf nths) (let d : j / 7 ≡ h .a = omega (arith, h .slot) in d) ∙ value-of-its-slot nths n (h .a) (h .first),
+      ap (valueOf weekdays) (let d : j % 7 ≡ h .b = omega (arith, h .slot) in d) ∙ value-of-its-slot weekdays w (h .b) (h .second),
     )
+
+pub record Paired (low : ℕ) (ns ws : List ℤ) : Type 0 where
+  pub at : List ℕ
+  pub slots-are : pairs ns ws ≡ map Slot.At at
+  pub rise : Rises low at 749
+  pub nths-back : map nthAt at ≡ ns
+  pub days-back : map dayAt at ≡ ws
+
+paired-next : (n w : ℤ) (ns ws : List ℤ) (low j : ℕ) → low ≤ j → pairSlot n w ≡ Slot.At j → Paired (suc j) ns ws → Paired low (n ∷ ns) (w ∷ ws)
+unfolding pairs
+paired-next n w ns ws low j l s t = record {
+  at = j ∷ t .at;
+  slots-are = rw (s, t .slots-are);
+  rise = (l, t .rise);
+  nths-back = rw (pair-back n w j s .0, t .nths-back);
+  days-back = rw (pair-back n w j s .1, t .days-back);
+}
+
+paired-from : (n w : ℤ) (i : ℕ) (ns ws : List ℤ) → pairSlot n w ≡ Slot.At i → length ns ≡ length ws → strays nths ns ≡ false → strays weekdays ws ≡ false
+    → pairsRiseFrom n w ns ws ≡ true → Paired (suc i) ns ws
+unfolding strays some pairs pairsRiseFrom
+paired-from n w i [] [] s e h k r = record { at = []; slots-are = refl; rise = pair-low n w i s; nths-back = refl; days-back = refl }
+paired-from n w i [] (v ∷ ws) s e h k r = absurd (omega arith)
+paired-from n w i (m ∷ ns) [] s e h k r = absurd (omega arith)
+paired-from n w i (m ∷ ns) (v ∷ ws) s e h k r =
+    let b = neither (isOutside (slotOf nths m)) (strays nths ns) h in
+    let d = neither (isOutside (slotOf weekdays v)) (strays weekdays ws) k in
+    let p = pair-placed m v (b .0) (d .0) in
+    let c = passes-on (pairBelow n w m v) (pairsRiseFrom m v ns ws) r in
+    paired-next m v ns ws (suc i) (p .i) (ltb-true i (p .i) (sym (pair-order n w m v i (p .i) s (p .slot)) ∙ c .0)) (p .slot)
+    (paired-from m v (p .i) ns ws (p .slot) (omega arith) (b .1) (d .1) (c .1))
+
+paired : (ns ws : List ℤ) → length ns ≡ length ws → strays nths ns ≡ false → strays weekdays ws ≡ false → pairsRise ns ws ≡ true → Paired 0 ns ws
+unfolding strays some pairs pairsRise
+paired [] [] e h k r = record { at = []; slots-are = refl; rise = omega arith; nths-back = refl; days-back = refl }
+paired [] (w ∷ ws) e h k r = absurd (omega arith)
+paired (n ∷ ns) [] e h k r = absurd (omega arith)
+paired (n ∷ ns) (w ∷ ws) e h k r =
+    let b = neither (isOutside (slotOf nths n)) (strays nths ns) h in
+    let d = neither (isOutside (slotOf weekdays w)) (strays weekdays ws) k in
+    let p = pair-placed n w (b .0) (d .0) in
+    paired-next n w ns ws 0 (p .i) (omega arith) (p .slot) (paired-from n w (p .i) ns ws (p .slot) (omega arith) (b .1) (d .1) r)
+
+pub pairs-back : (ns ws : List ℤ) → length ns ≡ length ws → strays nths ns ≡ false → strays weekdays ws ≡ false → pairsRise ns ws ≡ true
+    → (map nthAt (slotsFrom 0 (setOf 749 (pairs ns ws))) ≡ ns) × (map dayAt (slotsFrom 0 (setOf 749 (pairs ns ws))) ≡ ws)
+pairs-back ns ws e h k r =
+    let t = paired ns ws e h k r in
+    let s = ap (λ (es : List Slot). slotsFrom 0 (setOf 749 es)) (t .slots-are) ∙ set-back 749 (t .at) (t .rise) in
+    (ap (map nthAt) s ∙ t .nths-back, ap (map dayAt) s ∙ t .days-back)

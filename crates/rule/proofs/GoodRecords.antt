@@ -1,30 +1,31 @@
 -- A record is good exactly when some raw rule's accepted check yields it.
 -- Assumes nothing.
 use mathlib.Core.Path.{_≡_, refl, ap, sym, _∙_}
-use mathlib.Core.Bool.{Bool, true, false, not, _&&_, _||_}
+use mathlib.Core.Bool.{Bool, true, false, not, _&&_}
 use mathlib.Core.List.{List, [], _∷_}
 use Prim.Native.Nat.{ℕ, _≤_}
 use native.Mathlib.Omega.{arith}
 use lib.Dec.{eqb, ltb}
 use lib.ListN.{length}
+use lib.IntN.{ℤ}
 use borrow.Author.Tests.{eqb-true, not-false, ltb-false}
 use Rattle.rule.specs.declared.rrule.Refusal.{Refusal}
 use Rattle.rule.specs.declared.rrule.Verdict.{Verdict}
 use Rattle.rule.specs.declared.rrule.Rule.{Rule}
-use Rattle.rule.specs.Lists.{months, monthdays, yeardays, weeknos, nths, weekdays, hours, minutes, seconds, positions, isEmpty, setOf}
-use Rattle.rule.specs.Raw.{RawLists, Raw, entries, pairs}
-use Rattle.rule.specs.Refusals.{lacks, strays, entryOut, someEvery, someNth, mixedDays, nthMisplaced, positionsAlone, applies, verdict}
-use Rattle.rule.specs.Filling.{frequencyNumber, frequency, givenAs, given, noDays, fillFrom, fill, answers, checked, Yields}
-use Rattle.rule.specs.Records.{asRaw, accepts, sameSet, sameSets, yielded, hasEvery, hasNth, noOther, breaks, breaksNoRow, Sized}
-use Rattle.rule.specs.Claims.{GoodRecords}
+use Rattle.rule.specs.Lists.{months, monthdays, yeardays, weeknos, nths, weekdays, hours, minutes, seconds, positions}
+use Rattle.rule.specs.Raw.{RawLists, Raw, rawLists, raw, entries, pairs}
+use Rattle.rule.specs.Refusals.{strays, entryOut, rises, pairsRise, notRising, applies, verdict}
+use Rattle.rule.specs.Filling.{frequencyNumber, frequency, givenAs, given, fillFrom, fill, answers, checked, Yields}
+use Rattle.rule.specs.Records.{asRaw, accepts, sameSet, sameSets, yielded, breaks, breaksNoRow, Sized}
+use Rattle.rule.specs.Claims.{RuleReadBack, GoodRecords}
 use Rattle.calendar.proofs.Table.{same-below}
 use Rattle.rule.proofs.RuleLaws.{ruleOf}
-use Rattle.rule.proofs.RecordLaws.{in-order, accepted-is, given-back, frequency-back}
+use Rattle.rule.proofs.RecordLaws.{breaks-is, accepted-is, given-back, frequency-back}
 use Rattle.rule.proofs.RefusalLaws.{accepting, none-given, all-kept}
 use Rattle.rule.proofs.FillLaws.{both, same-itself, fill-once}
 use Rattle.rule.proofs.ValueLaws.{length-set-of}
-use Rattle.rule.proofs.GivenLaws.{neither, empty-is, pairs-empty, both-lack, no-every, no-nth}
-use Rattle.rule.proofs.FillKeeps.{narrower, fill-sized, fill-keeps}
+use Rattle.rule.proofs.GivenLaws.{neither, list-back, pairs-back}
+use Rattle.rule.proofs.FillKeeps.{fill-sized, fill-keeps}
 
 -- Two records with the same sets, and the same in all else, are one.
 same-sets : (s t : List Bool) → sameSet s t ≡ true → s ≡ t
@@ -81,7 +82,7 @@ own-raw r h =
     let b = both (accepts (verdict (asRaw r))) _ h in
     yields (asRaw r) r (accepting (verdict (asRaw r)) (b .0)) (given-again r (b .1))
 
--- An accepted raw rule is refused by no row, so what it gives breaks none.
+-- The lists of an accepted raw rule lie in their ranges, and rise.
 pub record InRange (l : RawLists) : Type 0 where
   pub bymonth : strays months (l .bymonth) ≡ false
   pub bymonthday : strays monthdays (l .bymonthday) ≡ false
@@ -122,6 +123,40 @@ in-range l e =
       bysetpos = k .1;
     }
 
+pub record Ordered (l : RawLists) : Type 0 where
+  pub bymonth : rises (l .bymonth) ≡ true
+  pub bymonthday : rises (l .bymonthday) ≡ true
+  pub byyearday : rises (l .byyearday) ≡ true
+  pub byweekno : rises (l .byweekno) ≡ true
+  pub bydays : pairsRise (l .bydayn) (l .bydayw) ≡ true
+  pub byhour : rises (l .byhour) ≡ true
+  pub byminute : rises (l .byminute) ≡ true
+  pub bysecond : rises (l .bysecond) ≡ true
+  pub bysetpos : rises (l .bysetpos) ≡ true
+
+ordered : (l : RawLists) → notRising l ≡ false → Ordered l
+unfolding notRising
+ordered l e =
+    let i = neither _ (not (rises (l .bysetpos))) e in
+    let h = neither _ (not (rises (l .bysecond))) (i .0) in
+    let g = neither _ (not (rises (l .byminute))) (h .0) in
+    let f = neither _ (not (rises (l .byhour))) (g .0) in
+    let d = neither _ (not (pairsRise (l .bydayn) (l .bydayw))) (f .0) in
+    let c = neither _ (not (rises (l .byweekno))) (d .0) in
+    let b = neither _ (not (rises (l .byyearday))) (c .0) in
+    let a = neither (not (rises (l .bymonth))) (not (rises (l .bymonthday))) (b .0) in
+    record {
+      bymonth = not-false _ (a .0);
+      bymonthday = not-false _ (a .1);
+      byyearday = not-false _ (b .1);
+      byweekno = not-false _ (c .1);
+      bydays = not-false _ (d .1);
+      byhour = not-false _ (f .1);
+      byminute = not-false _ (g .1);
+      bysecond = not-false _ (h .1);
+      bysetpos = not-false _ (i .1);
+    }
+
 pub given-sized : (w : Raw) → Sized (given w)
 unfolding given givenAs
 given-sized w = record {
@@ -140,72 +175,38 @@ number-back : (n : ℕ) → ltb 6 n ≡ false → frequencyNumber (frequency n) 
 unfolding frequency
 number-back n h = same-below (λ (k : ℕ). frequencyNumber (frequency k)) (λ (k : ℕ). k) 0 7 refl n (let l : n ≤ 6 = ltb-false 6 n h in omega arith)
 
--- where a test that fails rules another out, that one's passing needs this one's
-needs-it : (a b : Bool) → (a ≡ false → b ≡ false) → b ≡ true → a ≡ true
-needs-it true b f h = refl
-needs-it false b f h = absurd (let g : b ≡ false = f refl in let z : _≡_ {A = ℕ} 0 1 = cc in omega arith)
+-- So it is read back from what it gives, and what it gives breaks no row.
+same-raw : (w : Raw) {f : ℕ} {a1 a2 a3 a4 a5 a6 a7 a8 a9 a10 : List ℤ} → f ≡ w .freq
+    → a1 ≡ w .lists .bymonth → a2 ≡ w .lists .bymonthday → a3 ≡ w .lists .byyearday → a4 ≡ w .lists .byweekno → a5 ≡ w .lists .bydayn
+    → a6 ≡ w .lists .bydayw → a7 ≡ w .lists .byhour → a8 ≡ w .lists .byminute → a9 ≡ w .lists .bysecond → a10 ≡ w .lists .bysetpos
+    → raw f (w .interval) (w .count) (w .until) (w .wkst) (w .start) (rawLists a1 a2 a3 a4 a5 a6 a7 a8 a9 a10) ≡ w
+same-raw w e e1 e2 e3 e4 e5 e6 e7 e8 e9 e10 = rw (e, e1, e2, e3, e4, e5, e6, e7, e8, e9, e10)
 
--- BYDAY's set as given
-abbrev daysOf : RawLists → List Bool
-daysOf l = setOf 749 (pairs (l .bydayn) (l .bydayw))
+read-back : (w : Raw) → ((n : Refusal) → applies n w ≡ false) → asRaw (given w) ≡ w
+unfolding asRaw given givenAs
+read-back w p =
+    let l : RawLists = w .lists in
+    let i = in-range l (p Refusal.EntryOut) in
+    let o = ordered l (p Refusal.NotRising) in
+    let d = pairs-back (l .bydayn) (l .bydayw) (i .bydays) (i .bydayn) (i .bydayw) (o .bydays) in
+    same-raw w
+    (number-back (w .freq) (p Refusal.FrequencyAbove))
+    (list-back months (l .bymonth) (i .bymonth) (o .bymonth))
+    (list-back monthdays (l .bymonthday) (i .bymonthday) (o .bymonthday))
+    (list-back yeardays (l .byyearday) (i .byyearday) (o .byyearday))
+    (list-back weeknos (l .byweekno) (i .byweekno) (o .byweekno))
+    (d .0)
+    (d .1)
+    (list-back hours (l .byhour) (i .byhour) (o .byhour))
+    (list-back minutes (l .byminute) (i .byminute) (o .byminute))
+    (list-back seconds (l .bysecond) (i .bysecond) (o .bysecond))
+    (list-back positions (l .bysetpos) (i .bysetpos) (o .bysetpos))
 
-module _ (l : RawLists) (z : InRange l) where
-  mixed-given : mixedDays l ≡ false → (hasEvery (daysOf l) && hasNth (daysOf l)) ≡ false
-  unfolding mixedDays
-  mixed-given h =
-      narrower (someEvery (l .bydayn)) (someNth (l .bydayn)) (hasEvery (daysOf l)) (hasNth (daysOf l))
-      (needs-it (someEvery (l .bydayn)) _ (no-every (l .bydayn) (l .bydayw)))
-      (needs-it (someNth (l .bydayn)) _ (no-nth (l .bydayn) (l .bydayw)))
-      h
+pub rule-read-back : RuleReadBack
+rule-read-back w e = read-back w (none-given w .0 e)
 
-  nth-given : (n : ℕ) → nthMisplaced n l ≡ false
-      → (hasNth (daysOf l) && (not (isEmpty (setOf 106 (entries weeknos (l .byweekno)))) || ltb 1 n)) ≡ false
-  unfolding nthMisplaced
-  nth-given n h =
-      rw (empty-is weeknos (l .byweekno) (z .byweekno))
-      (narrower (someNth (l .bydayn)) (not (lacks (l .byweekno)) || ltb 1 n) (hasNth (daysOf l)) (not (lacks (l .byweekno)) || ltb 1 n)
-      (needs-it (someNth (l .bydayn)) _ (no-nth (l .bydayn) (l .bydayw)))
-      (λ e. e)
-      h)
-
-  alone-given : positionsAlone l ≡ false
-      → (not (isEmpty (setOf 732 (entries positions (l .bysetpos))))
-      && (isEmpty (setOf 12 (entries months (l .bymonth)))
-      && ((isEmpty (setOf 106 (entries weeknos (l .byweekno)))
-      && (isEmpty (setOf 732 (entries yeardays (l .byyearday)))
-      && (isEmpty (setOf 62 (entries monthdays (l .bymonthday))) && isEmpty (setOf 749 (pairs (l .bydayn) (l .bydayw))))))
-      && (isEmpty (setOf 24 (entries hours (l .byhour)))
-      && (isEmpty (setOf 60 (entries minutes (l .byminute))) && isEmpty (setOf 60 (entries seconds (l .bysecond)))))))) ≡ false
-  alone-given h =
-      rw (
-        empty-is positions (l .bysetpos) (z .bysetpos),
-        empty-is months (l .bymonth) (z .bymonth),
-        empty-is weeknos (l .byweekno) (z .byweekno),
-        empty-is yeardays (l .byyearday) (z .byyearday),
-        empty-is monthdays (l .bymonthday) (z .bymonthday),
-        pairs-empty (l .bydayn) (l .bydayw) (z .bydays) (z .bydayn) (z .bydayw),
-        empty-is hours (l .byhour) (z .byhour),
-        empty-is minutes (l .byminute) (z .byminute),
-        empty-is seconds (l .bysecond) (z .bysecond),
-        ← in-order (lacks (l .bymonth)) (lacks (l .bymonthday)) (lacks (l .byyearday)) (lacks (l .byweekno)) (lacks (l .bydayn))
-            (lacks (l .byhour) && (lacks (l .byminute) && lacks (l .bysecond))),
-      )
-      (rw (both-lack (l .bydayn) (l .bydayw) (z .bydays)) at h)
-
-module _ (w : Raw) (p : (n : Refusal) → applies n w ≡ false) where
-  rows-given : (n : Refusal) → breaks n (given w) ≡ false
-  unfolding given givenAs noOther noDays
-  rows-given Refusal.FrequencyAbove = refl
-  rows-given Refusal.WeekStartAbove = p Refusal.WeekStartAbove
-  rows-given Refusal.StartOut = p Refusal.StartOut
-  rows-given Refusal.UntilOut = p Refusal.UntilOut
-  rows-given Refusal.EntryOut = refl
-  rows-given Refusal.NotRising = refl
-  rows-given Refusal.MixedDays = mixed-given (w .lists) (in-range (w .lists) (p Refusal.EntryOut)) (p Refusal.MixedDays)
-  rows-given Refusal.NthMisplaced =
-      nth-given (w .lists) (in-range (w .lists) (p Refusal.EntryOut)) (frequencyNumber (frequency (w .freq)))
-      (ap (λ (n : ℕ). nthMisplaced n (w .lists)) (number-back (w .freq) (p Refusal.FrequencyAbove)) ∙ p Refusal.NthMisplaced)
-  rows-given Refusal.PositionsAlone = alone-given (w .lists) (in-range (w .lists) (p Refusal.EntryOut)) (p Refusal.PositionsAlone)
+rows-given : (w : Raw) → ((n : Refusal) → applies n w ≡ false) → (n : Refusal) → breaks n (given w) ≡ false
+rows-given w p n = sym (breaks-is (given w) (given-sized w) n) ∙ ap (applies n) (read-back w p) ∙ p n
 
 -- So an accepted raw rule, filled in, is a good record.
 same-record : (r : Rule) → sameSets r r ≡ true

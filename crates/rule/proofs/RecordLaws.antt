@@ -44,7 +44,7 @@ some-same f [] = refl
 some-same f (n ∷ ns) = rw (f n, some-same f ns)
 
 -- the lists of row 9 in another order
-pub in-order : (m d y w b t : Bool) → (m && (d && (y && (w && (b && (b && t)))))) ≡ (m && ((w && (y && (d && b))) && t))
+in-order : (m d y w b t : Bool) → (m && (d && (y && (w && (b && (b && t)))))) ≡ (m && ((w && (y && (d && b))) && t))
 in-order false d y w b t = refl
 in-order true true true true true t = refl
 in-order true true true true false t = refl
@@ -119,7 +119,7 @@ module _ (r : Rule) (z : Sized r) where
       (in-order (isEmpty (r .bymonth)) (isEmpty (r .bymonthday)) (isEmpty (r .byyearday)) (isEmpty (r .byweekno)) (isEmpty (r .byday)) _))
 
   -- each row, asked of the record instead
-  breaks-is : (n : Refusal) → applies n (asRaw r) ≡ breaks n r
+  pub breaks-is : (n : Refusal) → applies n (asRaw r) ≡ breaks n r
   unfolding asRaw
   breaks-is Refusal.FrequencyAbove = frequency-low (r .freq)
   breaks-is Refusal.WeekStartAbove = refl

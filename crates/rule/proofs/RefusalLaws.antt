@@ -12,7 +12,6 @@ use Rattle.machine.specs.Rising.{Rises}
 use Rattle.rule.specs.declared.rrule.Refusal.{Refusal}
 use Rattle.rule.specs.declared.rrule.Verdict.{Verdict}
 use Rattle.rule.specs.declared.rrule.Rule.{Rule}
-use Rattle.rule.specs.Raw.{Raw}
 use Rattle.rule.specs.Refusals.{refusalNumber, refusals, some, applies, firstOf, verdict}
 use Rattle.rule.specs.Records.{accepts, breaks, breaksNoRow}
 use Rattle.rule.specs.Claims.{RefusalsRise, LowestGiven, NoneGiven}

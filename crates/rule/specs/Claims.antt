@@ -17,8 +17,8 @@ use Rattle.rule.specs.declared.rrule.Rule.{Rule}
 use Rattle.rule.specs.Lists.{slots, slotOf, pairSlot}
 use Rattle.rule.specs.Raw.{Raw}
 use Rattle.rule.specs.Refusals.{refusalNumber, refusals, pairBelow, applies, verdict}
-use Rattle.rule.specs.Filling.{fill, Yields}
-use Rattle.rule.specs.Records.{valueOf, yielded, breaksNoRow, isUnfilled, Sized}
+use Rattle.rule.specs.Filling.{given, fill, Yields}
+use Rattle.rule.specs.Records.{valueOf, asRaw, yielded, breaksNoRow, isUnfilled, Sized}
 
 -- A slot's value has that slot, and a value that has a slot is that slot's value.
 abbrev pub SlotOfItsValue : Type 0
@@ -46,6 +46,10 @@ LowestGiven = (w : Raw) (n : Refusal)
 
 abbrev pub NoneGiven : Type 0
 NoneGiven = (w : Raw) → (verdict w ≡ Verdict.Accepted) ↔ ((n : Refusal) → applies n w ≡ false)
+
+-- A rule that the check accepts is read back from the sets that it gives: they lose nothing of it.
+abbrev pub RuleReadBack : Type 0
+RuleReadBack = (w : Raw) → verdict w ≡ Verdict.Accepted → asRaw (given w) ≡ w
 
 -- Filling in twice is filling in once.
 abbrev pub FillOnce : Type 0

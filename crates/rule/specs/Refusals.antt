@@ -1,4 +1,4 @@
--- When the panel says no: the refusals of the check, 1 to 9. The lowest number that applies is given, and none otherwise.
+-- When the panel says no: the refusals of the check. The lowest number that applies is given, and none otherwise.
 -- Assumes nothing.
 use Prim.Native.Nat.{ℕ}
 use mathlib.Core.Bool.{Bool, true, false, not, _&&_, _||_}
@@ -27,7 +27,7 @@ refusalNumber Refusal.MixedDays = 7
 refusalNumber Refusal.NthMisplaced = 8
 refusalNumber Refusal.PositionsAlone = 9
 
--- the table's order
+-- in the table's order
 abbrev pub refusals : List Refusal
 refusals =
     Refusal.FrequencyAbove ∷
