@@ -1,22 +1,21 @@
 -- The check from its parts: the verdict row by row, and the answer.
 -- Assumes nothing.
 use mathlib.Core.Path.{_≡_, refl, ap, _∙_}
-use mathlib.Core.Bool.{Bool, true, false}
+use mathlib.Core.Bool.{Bool, true, false, not, _&&_, _||_}
 use mathlib.Core.List.{List, [], _∷_}
-use Prim.Native.Nat.{suc, _≤_}
+use Prim.Native.Nat.{ℕ, suc, _≤_}
 use native.Mathlib.Omega.{arith}
 use lib.ListN.{length}
-use lib.Dec.{eqb}
+use lib.Dec.{eqb, ltb}
 use lib.IntN.{ℤ}
 use borrow.Author.Tests.{ne-eqb, ltb-false}
 use Rattle.rule.specs.declared.rrule.Frequency.{Frequency}
 use Rattle.rule.specs.declared.rrule.Refusal.{Refusal}
 use Rattle.rule.specs.declared.rrule.Verdict.{Verdict}
-use Rattle.rule.specs.declared.rrule.Checked.{Checked}
 use Rattle.rule.specs.declared.rrule.Rule.{Rule}
 use Rattle.rule.specs.Instants.{lastInstant}
-use Rattle.rule.specs.Raw.{Raw}
-use Rattle.rule.specs.Refusals.{refusals, lacks, applies, firstOf, verdict}
+use Rattle.rule.specs.Raw.{RawLists, Raw}
+use Rattle.rule.specs.Refusals.{refusals, lacks, someEvery, someNth, mixedDays, nthMisplaced, applies, firstOf, verdict}
 use Rattle.rule.specs.Filling.{frequency, givenAs, given, fill, blank, answers, checked}
 use Rattle.rule.specs.Entries.{orRefused}
 use Rattle.rule.proofs.RefusalLaws.{none-given}
@@ -25,29 +24,53 @@ pub lacks-is : (l : List ℤ) → eqb (length l) 0 ≡ lacks l
 lacks-is [] = refl
 lacks-is (x ∷ xs) = ne-eqb (suc (length xs)) 0 (λ (e : suc (length xs) ≡ 0). omega arith)
 
--- the verdict row by row, as the code comes to it
-unfoldable pub inTurn : (Refusal → Bool) → Verdict → List Refusal → Verdict
-inTurn p v [] = v
-inTurn p v (n ∷ ns) = inTurn p (orRefused v n (p n)) ns
+-- The verdict row by row, as the code comes to it: from that of the rows before, through the rows that are left.
+unfoldable pub judged : Raw → Verdict → List Refusal → Verdict
+unfolding orRefused
+judged w v [] = v
+judged w v (n ∷ ns) = judged w (orRefused v n (applies n w)) ns
 
-refused-stays : (p : Refusal → Bool) (m : Refusal) (ns : List Refusal) → inTurn p (Verdict.Refused m) ns ≡ Verdict.Refused m
-unfolding inTurn
-refused-stays p m [] = refl
-refused-stays p m (n ∷ ns) = refused-stays p m ns
+refused-stays : (w : Raw) (m : Refusal) (ns : List Refusal) → judged w (Verdict.Refused m) ns ≡ Verdict.Refused m
+unfolding judged orRefused
+refused-stays w m [] = refl
+refused-stays w m (n ∷ ns) = refused-stays w m ns
 
-first-in-turn : (p : Refusal → Bool) (ns : List Refusal) → inTurn p Verdict.Accepted ns ≡ firstOf p ns
-unfolding inTurn firstOf
-first-in-turn p [] = refl
-first-in-turn p (n ∷ ns) = go (p n) (first-in-turn p ns)
+first-judged : (w : Raw) (ns : List Refusal) → judged w Verdict.Accepted ns ≡ firstOf (λ (n : Refusal). applies n w) ns
+unfolding judged orRefused firstOf
+first-judged w [] = refl
+first-judged w (n ∷ ns) = go (applies n w) (first-judged w ns)
   where
-    go : (t : Bool) → inTurn p Verdict.Accepted ns ≡ firstOf p ns
-        → inTurn p (orRefused Verdict.Accepted n t) ns ≡ elim t [ true ↦ Verdict.Refused n | false ↦ firstOf p ns ]
-    go true e = refused-stays p n ns
+    go : (t : Bool) → judged w Verdict.Accepted ns ≡ firstOf (λ (m : Refusal). applies m w) ns
+        → judged w (orRefused Verdict.Accepted n t) ns ≡ elim t [ true ↦ Verdict.Refused n | false ↦ firstOf (λ (m : Refusal). applies m w) ns ]
+    go true e = refused-stays w n ns
     go false e = e
 
-pub verdict-in-turn : (w : Raw) → inTurn (λ (n : Refusal). applies n w) Verdict.Accepted refusals ≡ verdict w
+-- the rule's verdict comes of v, that of the rows before, and the rows that are left
+pub record Judged (w : Raw) (v : Verdict) (ns : List Refusal) : Type 0 where
+  pub is : judged w v ns ≡ verdict w
+
+-- before the first row, over a row, and behind the last
+pub no-row : (w : Raw) → Judged w Verdict.Accepted refusals
 unfolding verdict
-verdict-in-turn w = first-in-turn (λ (n : Refusal). applies n w) refusals
+no-row w = record { is = first-judged w refusals }
+
+pub row : {w : Raw} {v x : Verdict} {n : Refusal} {ns : List Refusal} {b : Bool} → Judged w v (n ∷ ns) → x ≡ orRefused v n b → b ≡ applies n w → Judged w x ns
+unfolding judged
+row {w = w} {v = v} {n = n} {ns = ns} j f g = record { is = ap (λ (y : Verdict). judged w y ns) (f ∙ ap (orRefused v n) g) ∙ j .is }
+
+pub all-rows : {w : Raw} {v : Verdict} → Judged w v [] → v ≡ verdict w
+unfolding judged
+all-rows j = j .is
+
+-- two rows whose tests the code has in parts
+pub mixed-by : (l : RawLists) {v n : Bool} → v ≡ someEvery (l .bydayn) → n ≡ someNth (l .bydayn) → (v && n) ≡ mixedDays l
+unfolding mixedDays
+mixed-by l e f = rw (e, f)
+
+pub misplaced-by : (freq : ℕ) (l : RawLists) {n : Bool} → n ≡ someNth (l .bydayn)
+    → (n && (not (eqb (length (l .byweekno)) 0) || ltb 1 freq)) ≡ nthMisplaced freq l
+unfolding nthMisplaced
+misplaced-by freq l e = rw (e, lacks-is (l .byweekno))
 
 pub start-in-range : (w : Raw) → verdict w ≡ Verdict.Accepted → w .start ≤ lastInstant
 start-in-range w e = ltb-false lastInstant (w .start) (none-given w .0 e Refusal.StartOut)

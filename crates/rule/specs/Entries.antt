@@ -1,7 +1,7 @@
 -- How the code reads a list: an entry as a number without a sign, its slot, and a set marked entry by entry; and how it comes to a verdict, row by
 -- row. Nothing but contracts leans on this.
 -- Assumes nothing.
-use Prim.Native.Nat.{ℕ, suc, _+_, _-_, _*_, _<_}
+use Prim.Native.Nat.{ℕ, suc, _+_, _-_, _<_}
 use mathlib.Core.Path.{_≡_}
 use mathlib.Core.Bool.{Bool, true, false, not, _&&_, _||_}
 use mathlib.Core.List.{List, [], _∷_}
@@ -14,7 +14,7 @@ use Rattle.rule.specs.declared.rrule.Range.{Range}
 use Rattle.rule.specs.declared.rrule.Slot.{Slot}
 use Rattle.rule.specs.declared.rrule.Refusal.{Refusal}
 use Rattle.rule.specs.declared.rrule.Verdict.{Verdict}
-use Rattle.rule.specs.Lists.{within, zeros, nths, weekdays, beside, isEmpty, mark}
+use Rattle.rule.specs.Lists.{within, zeros, nths, weekdays, beside, mark}
 
 -- a 16-bit value moved up by 32,768
 abbrev pub shift : ℤ → ℕ
@@ -46,6 +46,6 @@ marks s [] = s
 marks s (e ∷ es) = marks (mark s e) es
 
 -- the verdict of the rows before, or this row's refusal where they have none and it applies
-abbrev pub orRefused : Verdict → Refusal → Bool → Verdict
+unfoldable pub orRefused : Verdict → Refusal → Bool → Verdict
 orRefused (Verdict.Refused m) n b = Verdict.Refused m
 orRefused Verdict.Accepted n b = elim b [ true ↦ Verdict.Refused n | false ↦ Verdict.Accepted ]

@@ -54,7 +54,9 @@ fn entry_out(
     bysecond: &[i16],
     bysetpos: &[i16],
 ) -> bool
-    ensures { λ r. ⌜ r ≡ entryOut (rawLists (now (bymonth .entry)) (now (bymonthday .entry)) (now (byyearday .entry)) (now (byweekno .entry)) (now (bydayn .entry)) (now (bydayw .entry)) (now (byhour .entry)) (now (byminute .entry)) (now (bysecond .entry)) (now (bysetpos .entry))) ⌝ }
+    ensures { λ r. ⌜ r ≡ entryOut (rawLists
+        (now (bymonth .entry)) (now (bymonthday .entry)) (now (byyearday .entry)) (now (byweekno .entry)) (now (bydayn .entry))
+        (now (bydayw .entry)) (now (byhour .entry)) (now (byminute .entry)) (now (bysecond .entry)) (now (bysetpos .entry))) ⌝ }
 {
     has_strays(MONTHS, bymonth)
         | has_strays(MONTHDAYS, bymonthday)
@@ -82,7 +84,9 @@ fn not_rising(
     bysecond: &[i16],
     bysetpos: &[i16],
 ) -> bool
-    ensures { λ r. ⌜ r ≡ notRising (rawLists (now (bymonth .entry)) (now (bymonthday .entry)) (now (byyearday .entry)) (now (byweekno .entry)) (now (bydayn .entry)) (now (bydayw .entry)) (now (byhour .entry)) (now (byminute .entry)) (now (bysecond .entry)) (now (bysetpos .entry))) ⌝ }
+    ensures { λ r. ⌜ r ≡ notRising (rawLists
+        (now (bymonth .entry)) (now (bymonthday .entry)) (now (byyearday .entry)) (now (byweekno .entry)) (now (bydayn .entry))
+        (now (bydayw .entry)) (now (byhour .entry)) (now (byminute .entry)) (now (bysecond .entry)) (now (bysetpos .entry))) ⌝ }
 {
     !is_rising(bymonth)
         | !is_rising(bymonthday)
@@ -127,7 +131,9 @@ fn given_rule(
     bysecond: &[i16],
     bysetpos: &[i16],
 ) -> Rule
-    ensures { λ r. ⌜ r ≡ givenAs freq interval count until wkst start (rawLists (now (bymonth .entry)) (now (bymonthday .entry)) (now (byyearday .entry)) (now (byweekno .entry)) (now (bydayn .entry)) (now (bydayw .entry)) (now (byhour .entry)) (now (byminute .entry)) (now (bysecond .entry)) (now (bysetpos .entry))) ⌝ }
+    ensures { λ r. ⌜ r ≡ givenAs freq interval count until wkst start (rawLists
+        (now (bymonth .entry)) (now (bymonthday .entry)) (now (byyearday .entry)) (now (byweekno .entry)) (now (bydayn .entry))
+        (now (bydayw .entry)) (now (byhour .entry)) (now (byminute .entry)) (now (bysecond .entry)) (now (bysetpos .entry))) ⌝ }
 {
     let mut months = [false; 12];
     let mut monthdays = [false; 62];
@@ -203,7 +209,9 @@ fn positions_alone(
     bysecond: &[i16],
     bysetpos: &[i16],
 ) -> bool
-    ensures { λ r. ⌜ r ≡ positionsAlone (rawLists (now (bymonth .entry)) (now (bymonthday .entry)) (now (byyearday .entry)) (now (byweekno .entry)) (now (bydayn .entry)) (now (bydayw .entry)) (now (byhour .entry)) (now (byminute .entry)) (now (bysecond .entry)) (now (bysetpos .entry))) ⌝ }
+    ensures { λ r. ⌜ r ≡ positionsAlone (rawLists
+        (now (bymonth .entry)) (now (bymonthday .entry)) (now (byyearday .entry)) (now (byweekno .entry)) (now (bydayn .entry))
+        (now (bydayw .entry)) (now (byhour .entry)) (now (byminute .entry)) (now (bysecond .entry)) (now (bysetpos .entry))) ⌝ }
 {
     (bysetpos.len() != 0)
         & ((bymonth.len() == 0)
@@ -216,8 +224,7 @@ fn positions_alone(
                                     & ((byminute.len() == 0) & (bysecond.len() == 0)))))))))
 }
 
-// The verdict: the table's rows in their order, each judged by itself, and the first that applies. All of the rule is handed over, whether a row asks for
-// it or not.
+// The verdict: every row's test, then the rows in the table's order. The whole rule is handed over, whether a row asks for a part of it or not.
 fn verdict_of(
     freq: u8,
     interval: u16,
@@ -236,7 +243,9 @@ fn verdict_of(
     bysecond: &[i16],
     bysetpos: &[i16],
 ) -> Verdict
-    ensures { λ r. ⌜ r ≡ verdict (raw freq interval count until wkst start (rawLists (now (bymonth .entry)) (now (bymonthday .entry)) (now (byyearday .entry)) (now (byweekno .entry)) (now (bydayn .entry)) (now (bydayw .entry)) (now (byhour .entry)) (now (byminute .entry)) (now (bysecond .entry)) (now (bysetpos .entry)))) ⌝ }
+    ensures { λ r. ⌜ r ≡ verdict (raw freq interval count until wkst start (rawLists
+        (now (bymonth .entry)) (now (bymonthday .entry)) (now (byyearday .entry)) (now (byweekno .entry)) (now (bydayn .entry))
+        (now (bydayw .entry)) (now (byhour .entry)) (now (byminute .entry)) (now (bysecond .entry)) (now (bysetpos .entry)))) ⌝ }
 {
     let entry = entry_out(
         bymonth,
@@ -342,7 +351,9 @@ pub fn check(
     bysecond: &[i16],
     bysetpos: &[i16],
 ) -> Checked
-    ensures { λ r. ⌜ r ≡ checked (raw freq interval count until wkst start (rawLists (now (bymonth .entry)) (now (bymonthday .entry)) (now (byyearday .entry)) (now (byweekno .entry)) (now (bydayn .entry)) (now (bydayw .entry)) (now (byhour .entry)) (now (byminute .entry)) (now (bysecond .entry)) (now (bysetpos .entry)))) ⌝ }
+    ensures { λ r. ⌜ r ≡ checked (raw freq interval count until wkst start (rawLists
+        (now (bymonth .entry)) (now (bymonthday .entry)) (now (byyearday .entry)) (now (byweekno .entry)) (now (bydayn .entry))
+        (now (bydayw .entry)) (now (byhour .entry)) (now (byminute .entry)) (now (bysecond .entry)) (now (bysetpos .entry)))) ⌝ }
 {
     let verdict = verdict_of(
         freq,

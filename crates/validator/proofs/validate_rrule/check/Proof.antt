@@ -1,6 +1,6 @@
 -- `validator::validate_rrule::check` meets its contract.
 -- Assumes nothing.
-use mathlib.Core.Path.{sym, _∙_, ap}
+use mathlib.Core.Path.{sym, _∙_}
 use Rattle.rule.specs.Filling.{givenAs}
 use Rattle.rule.proofs.CheckLaws.{start-in-range, refused, accepted}
 use borrow.Author.Needs.{needs}
@@ -30,10 +30,17 @@ given-rule-requires c κs = search needs
 
 filled-requires : tie.Need-filled-requires
 unfolding givenAs
-filled-requires c κs = rw (c .given-rule .ensures) (start-in-range _ (sym (c .before .before .before .before .verdict-of .ensures) ∙ c .before .before .enum-told .given .1))
+filled-requires c κs =
+    let told = c .before .before in
+    rw (c .given-rule .ensures) (start-in-range _ (sym (told .before .before .verdict-of .ensures) ∙ told .enum-told .given .1))
 
 returns-2 : tie.Need-returns-2
-returns-2 c = accepted _ _ _ _ _ (c .before .before .before .before .before .verdict-of .ensures) (c .before .before .before .enum-told .given .1) (c .before .before .frequency-of .ensures) (c .before .given-rule .ensures) (c .filled .ensures)
+returns-2 c =
+    let given = c .before in
+    let frequency = given .before in
+    let told = frequency .before in
+    accepted _ _ _ _ _ (told .before .before .verdict-of .ensures) (told .enum-told .given .1) (frequency .frequency-of .ensures) (given .given-rule .ensures)
+    (c .filled .ensures)
 
 pub check-spec : {M : Type 1} → statement M
 check-spec =

@@ -1,7 +1,8 @@
 -- `validator::validate_rrule::verdict_of` meets its contract: row by row, the code has the definition's test.
 -- Assumes nothing.
-use Rattle.rule.specs.Refusals.{mixedDays, nthMisplaced}
-use Rattle.rule.proofs.CheckLaws.{lacks-is, inTurn, verdict-in-turn}
+use mathlib.Core.Path.{refl}
+use Rattle.rule.specs.Raw.{RawLists, Raw, rawLists, raw}
+use Rattle.rule.proofs.CheckLaws.{no-row, row, all-rows, mixed-by, misplaced-by}
 use borrow.Author.Needs.{needs}
 use Rattle.validator.proofs.validate_rrule.verdict_of.Statement.{statement}
 use Rattle.validator.proofs.validate_rrule.verdict_of.Tie as tie
@@ -24,9 +25,8 @@ has-every-requires c κs = search needs
 until-out-requires : tie.Need-until-out-requires
 until-out-requires c κs = search needs
 
--- the calls from the last to the first: the rows, then the tests
+-- the calls from the last to the first, the rows and then the tests; then row by row
 returns : tie.Need-returns
-unfolding inTurn mixedDays nthMisplaced
 returns c =
     let positions = c in
     let nth = positions .before in
@@ -43,25 +43,21 @@ returns c =
     let positions-alone = has-nth .before in
     let not-rising = positions-alone .before in
     let entry-out = not-rising .before in
-    rw (
-      positions .or-refused9 .ensures,
-      nth .or-refused8 .ensures,
-      mixed .or-refused7 .ensures,
-      order .or-refused6 .ensures,
-      entry .or-refused5 .ensures,
-      until .or-refused4 .ensures,
-      start .or-refused3 .ensures,
-      wkst .or-refused2 .ensures,
-      frequency .or-refused .ensures,
-      until-out .until-out .ensures,
-      has-every .has-every .ensures,
-      has-nth .has-nth .ensures,
-      positions-alone .positions-alone .ensures,
-      not-rising .not-rising .ensures,
-      entry-out .entry-out .ensures,
-      lacks-is (entry-out .before .args .byweekno .now),
-    )
-    (verdict-in-turn _)
+    let a = entry-out .before .args in
+    let l : RawLists =
+    rawLists (a .bymonth .now) (a .bymonthday .now) (a .byyearday .now) (a .byweekno .now) (a .bydayn .now) (a .bydayw .now) (a .byhour .now)
+    (a .byminute .now) (a .bysecond .now) (a .bysetpos .now) in
+    let w : Raw = raw (a .freq) (a .interval) (a .count) (a .until) (a .wkst) (a .start) l in
+    let r1 = row (no-row w) (frequency .or-refused .ensures) refl in
+    let r2 = row r1 (wkst .or-refused2 .ensures) refl in
+    let r3 = row r2 (start .or-refused3 .ensures) refl in
+    let r4 = row r3 (until .or-refused4 .ensures) (until-out .until-out .ensures) in
+    let r5 = row r4 (entry .or-refused5 .ensures) (entry-out .entry-out .ensures) in
+    let r6 = row r5 (order .or-refused6 .ensures) (not-rising .not-rising .ensures) in
+    let r7 = row r6 (mixed .or-refused7 .ensures) (mixed-by l (has-every .has-every .ensures) (has-nth .has-nth .ensures)) in
+    let r8 = row r7 (nth .or-refused8 .ensures) (misplaced-by (a .freq) l (has-nth .has-nth .ensures)) in
+    let r9 = row r8 (positions .or-refused9 .ensures) (positions-alone .positions-alone .ensures) in
+    all-rows r9
 
 pub verdict-of-spec : {M : Type 1} → statement M
 verdict-of-spec =
