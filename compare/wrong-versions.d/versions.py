@@ -187,11 +187,16 @@ def fillings():
 
 # The numbers, and the tests of the check.
 
-NUMBERS = ("FrequencyAbove", "WeekStartAbove", "StartOut", "UntilOut", "EntryOut", "NotRising", "MixedDays", "NthMisplaced", "PositionsAlone")
-TABLES = ("frequency", "week-start", "start", "until", "entries-month", "order-month", "mixed", "nth", "positions")
-ROWS = (  # the test of each
-    "ltb 6 (w .freq)", "ltb 6 (w .wkst)", "ltb lastInstant (w .start)", "untilOut (w .until)", "entryOut (w .lists)", "notRising (w .lists)",
-    "mixedDays (w .lists)", "nthMisplaced (w .freq) (w .lists)", "positionsAlone (w .lists)",
+REFUSED = (  # number, name, the table of the grid that has it, and its test
+    (1, "FrequencyAbove", "frequency", "ltb 6 (w .freq)"),
+    (2, "WeekStartAbove", "week-start", "ltb 6 (w .wkst)"),
+    (3, "StartOut", "start", "ltb lastInstant (w .start)"),
+    (4, "UntilOut", "until", "untilOut (w .until)"),
+    (5, "EntryOut", "entries-month", "entryOut (w .lists)"),
+    (6, "NotRising", "order-month", "notRising (w .lists)"),
+    (7, "MixedDays", "mixed", "mixedDays (w .lists)"),
+    (8, "NthMisplaced", "nth", "nthMisplaced (w .freq) (w .lists)"),
+    (9, "PositionsAlone", "positions", "positionsAlone (w .lists)"),
 )
 RANGES = {
     "months": ("fromOne", 12, "entries-month"), "monthdays": ("eitherWay", 31, "entries-monthday"), "yeardays": ("eitherWay", 366, "entries-yearday"),
@@ -203,17 +208,16 @@ OTHER_KINDS = {"fromOne": "fromZero", "eitherWay": "throughZero", "throughZero":
 
 
 def numbers():
-    for i, (a, b) in enumerate(zip(NUMBERS, NUMBERS[1:]), 1):
-        old = f"refusalNumber Refusal.{a} = {i}\nrefusalNumber Refusal.{b} = {i + 1}\n"
-        new = f"refusalNumber Refusal.{a} = {i + 1}\nrefusalNumber Refusal.{b} = {i}\n"
-        yield Version(f"{i} and {i + 1} exchanged", Edit(REFUSALS, old, new, []), "Refusals", TABLES[i - 1])
-        old = f"    Refusal.{a} ∷\n    Refusal.{b} ∷\n"
-        new = f"    Refusal.{b} ∷\n    Refusal.{a} ∷\n"
+    for (i, a, table, _), (j, b, _, _) in zip(REFUSED, REFUSED[1:]):
+        old = f"refusalNumber Refusal.{a} = {i}\nrefusalNumber Refusal.{b} = {j}\n"
+        new = f"refusalNumber Refusal.{a} = {j}\nrefusalNumber Refusal.{b} = {i}\n"
+        yield Version(f"{i} and {j} exchanged", Edit(REFUSALS, old, new, []), "Refusals", table)
+        old, new = f"    Refusal.{a} ∷\n    Refusal.{b} ∷\n", f"    Refusal.{b} ∷\n    Refusal.{a} ∷\n"
         if i < 8:  # 8 needs a BYDAY and 9 has none
-            yield Version(f"{i + 1} before {i}", Edit(REFUSALS, old, new, []), "Refusals", "lowest")
-    for i, (name, row, table) in enumerate(zip(NUMBERS, ROWS, TABLES), 1):
+            yield Version(f"{j} before {i}", Edit(REFUSALS, old, new, []), "Refusals", "lowest")
+    for i, name, table, test in REFUSED:
         line = f"applies Refusal.{name} w ="
-        yield Version(f"{i} never given", Edit(REFUSALS, f"{line} {row}\n", f"{line} false\n", []), "Refusals", table)
+        yield Version(f"{i} never given", Edit(REFUSALS, f"{line} {test}\n", f"{line} false\n", []), "Refusals", table)
     old = "faultNumber Fault.Record = 20\nfaultNumber Fault.Cursor = 21\n"
     new = "faultNumber Fault.Record = 21\nfaultNumber Fault.Cursor = 20\n"
     yield Version("20 and 21 exchanged", Edit(FAULTS, old, new, []), "Faults", "record-20")
