@@ -262,7 +262,8 @@ module _ (r : Rule) (plan : Plan) (p : plan ≡ planOf r) where
 
   -- the year that is opened for them
   module _ (h : yielded r ≡ true) (k : ℕ) (inside : inRange r k ≡ true) (span : Days) (s : span ≡ spanOf r k) (info : IterInfo)
-      (made : info ≡ yearAt (plan .shape) (span .from) (r .byweekno) (r .byday)) where
+      (n : ℕ) (e : n ≡ yearAt (span .from))
+      (made : info ≡ infoOf (plan .shape .asked) (plan .shape .inyear) (plan .shape .wkst) (r .byweekno) (r .byday) n) where
     day-is : dayIn (span .from) ≡ spanOf r k .from
     day-is =
         let low : spanOf r k .from < 4194304 = omega (arith, span-from-high r (good r h) k inside) in
@@ -272,8 +273,8 @@ module _ (r : Rule) (plan : Plan) (p : plan ≡ planOf r) where
     unfolding ruleInfo yearAt shapeOf shapeFrom
     info-made =
         made
-        ∙ ap (λ (x : Shape). infoOf (x .asked) (x .inyear) (x .wkst) (r .byweekno) (r .byday) (yearOf (dayIn (span .from)))) shape-is
-        ∙ ap (λ (d : ℕ). ruleInfo r (yearOf d)) day-is
+        ∙ ap (λ (x : Shape). infoOf (x .asked) (x .inyear) (x .wkst) (r .byweekno) (r .byday) n) shape-is
+        ∙ ap (ruleInfo r) (e ∙ ap yearOf day-is)
 
     pub info-covers : isInYear (info .year) (span .from) ≡ true
     info-covers =

@@ -12,7 +12,7 @@ use opening::cursors::is_fit;
 use opening::period::Period;
 use opening::period::covers;
 use opening::period::open_period;
-use opening::period::open_year;
+use opening::period::year_at;
 use opening::plan::Plan;
 use opening::plan::Shape;
 use opening::plan::plan_of;
@@ -30,6 +30,7 @@ use settling::rrule_iter::settle;
 use stretches::counter_date::Days;
 use stretches::counter_date::days_of;
 use walks::rrule_iter::Bounds;
+use years::iterinfo::rebuild;
 ghost use mathlib.Core.Path.{_≡_};
 ghost use mathlib.Core.Bool.{true, _||_};
 ghost use Prim.Native.Nat.{_≤_};
@@ -94,11 +95,25 @@ fn run_on(
     let mut days = [0; 373];
     let mut places = [0; 732];
     let first = days_of(freq, shape.startday, counter.number);
-    let mut info = open_year(shape, first.from, &rule.byweekno, &rule.byday);
+    let mut info = rebuild(
+        shape.asked,
+        shape.inyear,
+        shape.wkst,
+        year_at(first.from),
+        &rule.byweekno,
+        &rule.byday,
+    );
     loop {
         let span = days_of(freq, shape.startday, counter.number);
         if !covers(info.year, span.from) {
-            info = open_year(shape, span.from, &rule.byweekno, &rule.byday);
+            info = rebuild(
+                shape.asked,
+                shape.inyear,
+                shape.wkst,
+                year_at(span.from),
+                &rule.byweekno,
+                &rule.byday,
+            );
             continue;
         }
         let period = open_period(

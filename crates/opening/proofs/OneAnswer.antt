@@ -12,8 +12,8 @@ use Rattle.opening.proofs.period.covers.Kinds as covers-kinds
 use Rattle.opening.proofs.period.covers.Reads as covers
 use Rattle.opening.proofs.period.open_period.Kinds as open-period-kinds
 use Rattle.opening.proofs.period.open_period.Reads as open-period
-use Rattle.opening.proofs.period.open_year.Kinds as open-year-kinds
-use Rattle.opening.proofs.period.open_year.Reads as open-year
+use Rattle.opening.proofs.period.year_at.Kinds as year-at-kinds
+use Rattle.opening.proofs.period.year_at.Reads as year-at
 use Rattle.opening.proofs.plan.plan_of.Kinds as plan-of-kinds
 use Rattle.opening.proofs.plan.plan_of.Reads as plan-of
 
@@ -23,8 +23,8 @@ plan-of-has-one κs a x y e f = one-answer
 pub covers-has-one : Determines 0 covers-kinds.ps covers-kinds.r covers.Post
 covers-has-one κs a x y e f = one-answer
 
-pub open-year-has-one : Determines 1 open-year-kinds.ps open-year-kinds.r open-year.Post
-open-year-has-one κs a x y e f = one-answer
+pub year-at-has-one : Determines 0 year-at-kinds.ps year-at-kinds.r year-at.Post
+year-at-has-one κs a x y e f = one-answer
 
 pub is-fit-has-one : Determines 3 is-fit-kinds.ps is-fit-kinds.r is-fit.Post
 is-fit-has-one κs a x y e f = one-answer
@@ -47,8 +47,8 @@ plan-of-asks-nothing κs a = nothing-asked
 pub covers-asks-nothing : AsksNothing 0 covers-kinds.ps covers.requires
 covers-asks-nothing κs a = nothing-asked
 
-pub open-year-asks-nothing : AsksNothing 1 open-year-kinds.ps open-year.requires
-open-year-asks-nothing κs a = nothing-asked
+pub year-at-asks-nothing : AsksNothing 0 year-at-kinds.ps year-at.requires
+year-at-asks-nothing κs a = nothing-asked
 
 pub is-fit-asks-nothing : AsksNothing 3 is-fit-kinds.ps is-fit.requires
 is-fit-asks-nothing κs a = nothing-asked

@@ -10,7 +10,6 @@ use Rattle.rule.specs.declared.rrule.Frequency.{Frequency}
 use Rattle.rule.specs.Moves.{ticks}
 use Rattle.weeks.specs.declared.yearinfo.Year.{Year}
 use Rattle.years.specs.declared.iterinfo.IterInfo.{IterInfo}
-use Rattle.years.specs.Info.{infoOf}
 use Rattle.days.specs.Filters.{DayLists}
 use Rattle.days.specs.DaySets.{daySet}
 use Rattle.stretches.specs.declared.counter_date.Days.{Days}
@@ -26,13 +25,13 @@ use Rattle.opening.specs.declared.period.Period.{Period}
 unfoldable pub isInYear : Year → ℕ → Bool
 isInYear y d = leb (y .first) d && ltb d (y .first + daysOf (y .long))
 
--- the year of a day, with the tables and masks that the rule needs; a day far out of range counts as day 0
+-- the year of a day; one far out of range counts as day 0
 abbrev pub dayIn : ℕ → ℕ
 dayIn d = if leb 4194304 d then 0 else d
 
-unfoldable pub yearAt : Shape → ℕ → (weeknos days : List Bool) → IterInfo
-unfolding infoOf yearOf
-yearAt s d weeknos days = infoOf (s .asked) (s .inyear) (s .wkst) weeknos days (yearOf (dayIn d))
+unfoldable pub yearAt : ℕ → ℕ
+unfolding yearOf
+yearAt d = yearOf (dayIn d)
 
 -- the second of its day at which a period with this tick begins; of any number, 0 where a day has no such tick
 abbrev pub tickBegins : Frequency → ℕ → ℕ

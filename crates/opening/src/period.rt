@@ -14,8 +14,6 @@ use times::iterinfo::open_times;
 use times::iterinfo::times_len;
 use walks::rrule_iter::Frame;
 use weeks::yearinfo::Year;
-use years::iterinfo::IterInfo;
-use years::iterinfo::rebuild;
 use years::lists::Asked;
 ghost use mathlib.Core.Path.{_≡_};
 ghost use Prim.Native.Nat.{_-_, _/_, _≤_};
@@ -54,24 +52,11 @@ fn day_in(day: u64) -> u32
     day as u32
 }
 
-// The year of a day, with the tables and masks that the rule needs.
-pub fn open_year<'a>(
-    shape: Shape,
-    day: u64,
-    byweekno: &'a [bool; 106],
-    byday: &'a [bool; 749],
-) -> IterInfo
-    ensures { λ r. ⌜ r ≡ yearAt shape day (now (byweekno .entry)) (now (byday .entry)) ⌝ }
+// The year of a day.
+pub fn year_at(day: u64) -> u32
+    ensures { λ r. ⌜ r ≡ yearAt day ⌝ }
 {
-    let number = year_of_day(day_in(day));
-    rebuild(
-        shape.asked,
-        shape.inyear,
-        shape.wkst,
-        number,
-        byweekno,
-        byday,
-    )
+    year_of_day(day_in(day))
 }
 
 // The passing days of a period. Where no list is asked, or BYMONTH alone, get_dayset, which is long, isn't called for each period.

@@ -39,7 +39,7 @@ abbrev Start : Type 0
 Start = tie.Start Inv-loop μ-loop
 
 abbrev start : Loop → Start
-start c = c .before .before .before .before .before .before .before .before .before
+start c = c .before .before .before .before .before .before .before .before .before .before
 
 abbrev rule : Start → Rule
 rule s = s .args .t1
@@ -52,8 +52,8 @@ abbrev isCovered : Start → IterInfo → ℕ → Bool
 isCovered s info number = isInYear (info .year) (daysIn (plan s .shape .freq) (plan s .shape .startday) number .from)
 
 -- the first period
-abbrev begun : tie.After-open-year Inv-loop μ-loop → tie.After-days-of Inv-loop μ-loop
-begun c = c .before .before .before .before
+abbrev begun : tie.After-rebuild Inv-loop μ-loop → tie.After-days-of Inv-loop μ-loop
+begun c = c .before .before .before .before .before
 
 -- the year covers the period, or not
 abbrev covering : tie.Else1 Inv-loop μ-loop → Loop
@@ -62,8 +62,8 @@ covering c = c .before .before .before .before
 abbrev leaving : tie.Then1 Inv-loop μ-loop → Loop
 leaving c = c .before .before .before .before
 
-abbrev renewed : tie.After-open-year2 Inv-loop μ-loop → tie.Then1 Inv-loop μ-loop
-renewed c = c .before .before .before .before
+abbrev renewed : tie.After-rebuild2 Inv-loop μ-loop → tie.Then1 Inv-loop μ-loop
+renewed c = c .before .before .before .before .before
 
 -- the period is opened, the cursor is taken, the walk is made, and what becomes of the call is settled
 abbrev opening : tie.After-open-period Inv-loop μ-loop → tie.Else1 Inv-loop μ-loop
@@ -150,19 +150,23 @@ held-at-requires c κs = search needs
 days-of-requires : tie.Need-days-of-requires Inv-loop μ-loop
 days-of-requires c κs = search needs
 
-open-year-requires : tie.Need-open-year-requires Inv-loop μ-loop
-open-year-requires c κs = search needs
+year-at-requires : tie.Need-year-at-requires Inv-loop μ-loop
+year-at-requires c κs = search needs
+
+rebuild-requires : tie.Need-rebuild-requires Inv-loop μ-loop
+rebuild-requires c κs = search needs
 
 loop-holds : tie.Need-loop-holds Inv-loop μ-loop
 loop-holds c =
+    let n = c .before .before .before .before in
     let d = begun c in
     let h = d .before in
     let s = h .before .before .before in
     let span = span-is (rule s) (plan s) (s .pre .1) (s .args .cursor .k) (s .args .begun) (d .days-of .result) (s .pre .2) (d .days-of .ensures) in
-    begins-at (rule s) (s .args .m) (s .args .cursor) (h .held-at .result) (s .args .buffer .now) (s .args .begun) _ _ (c .open-year .result) _
+    begins-at (rule s) (s .args .m) (s .args .cursor) (h .held-at .result) (s .args .buffer .now) (s .args .begun) _ _ (c .rebuild .result) _
     (s .pre .3) (h .held-at .ensures) (s .pre .2) refl refl
-    (info-made (rule s) (plan s) (s .pre .1) (s .pre .0) (s .args .cursor .k) (s .pre .3) (d .days-of .result) span (c .open-year .result)
-    (c .open-year .ensures))
+    (info-made (rule s) (plan s) (s .pre .1) (s .pre .0) (s .args .cursor .k) (s .pre .3) (d .days-of .result) span (c .rebuild .result)
+    (n .year-at .result) (n .year-at .ensures) (c .rebuild .ensures))
     (s .good .1 .1 .1 .1 .1 .0 .1)
 
 days-of-requires-2 : tie.Need-days-of-requires-2 Inv-loop μ-loop
@@ -171,11 +175,15 @@ days-of-requires-2 c κs = search needs
 covers-requires : tie.Need-covers-requires Inv-loop μ-loop
 covers-requires c κs = search needs
 
-open-year-requires-2 : tie.Need-open-year-requires-2 Inv-loop μ-loop
-open-year-requires-2 c κs = search needs
+year-at-requires-2 : tie.Need-year-at-requires-2 Inv-loop μ-loop
+year-at-requires-2 c κs = search needs
+
+rebuild-requires-2 : tie.Need-rebuild-requires-2 Inv-loop μ-loop
+rebuild-requires-2 c κs = search needs
 
 loop-less : tie.Need-loop-less Inv-loop μ-loop
 loop-less c =
+    let n = c .before .before .before .before in
     let b = renewed c in
     let l = leaving b in
     let s = start l in
@@ -185,21 +193,22 @@ loop-less c =
     let span = span-is (rule s) (plan s) (s .pre .1) k (l .loop .counter) (d .days-of2 .result) (l .loop .inv .counted) (d .days-of2 .ensures) in
     nearer-by-year (2 * (s .args .m - l .loop .held .moves)) _ _
     (ap (λ (x : Days). isInYear i (x .from)) (sym (d .days-of2 .ensures)) ∙ sym (b .before .covers .ensures) ∙ not-true _ (b .if1 .taken))
-    (ap (λ (x : Days). isInYear (c .open-year2 .result .year) (x .from)) (sym (d .days-of2 .ensures))
-    ∙ info-covers (rule s) (plan s) (s .pre .1) (s .pre .0) k (l .loop .inv .ranged) (d .days-of2 .result) span (c .open-year2 .result)
-    (c .open-year2 .ensures))
+    (ap (λ (x : Days). isInYear (c .rebuild2 .result .year) (x .from)) (sym (d .days-of2 .ensures))
+    ∙ info-covers (rule s) (plan s) (s .pre .1) (s .pre .0) k (l .loop .inv .ranged) (d .days-of2 .result) span (c .rebuild2 .result)
+    (n .year-at2 .result) (n .year-at2 .ensures) (c .rebuild2 .ensures))
 
 loop-again : tie.Need-loop-again Inv-loop μ-loop
 loop-again c =
+    let n = c .before .before .before .before in
     let b = renewed c in
     let l = leaving b in
     let s = start l in
     let d = b .before .before .before in
     let k = l .loop .counter .k in
     let span = span-is (rule s) (plan s) (s .pre .1) k (l .loop .counter) (d .days-of2 .result) (l .loop .inv .counted) (d .days-of2 .ensures) in
-    rebuilt (rule s) (s .args .m) (s .args .cursor) _ _ _ _ _ _ _ (l .loop .info) (c .open-year2 .result) _ (l .loop .inv)
-    (info-made (rule s) (plan s) (s .pre .1) (s .pre .0) k (l .loop .inv .ranged) (d .days-of2 .result) span (c .open-year2 .result)
-    (c .open-year2 .ensures))
+    rebuilt (rule s) (s .args .m) (s .args .cursor) _ _ _ _ _ _ _ (l .loop .info) (c .rebuild2 .result) _ (l .loop .inv)
+    (info-made (rule s) (plan s) (s .pre .1) (s .pre .0) k (l .loop .inv .ranged) (d .days-of2 .result) span (c .rebuild2 .result)
+    (n .year-at2 .result) (n .year-at2 .ensures) (c .rebuild2 .ensures))
 
 open-period-requires : tie.Need-open-period-requires Inv-loop μ-loop
 open-period-requires c κs = search needs
@@ -346,11 +355,13 @@ run-on-spec =
     μ-loop
     held-at-requires
     days-of-requires
-    open-year-requires
+    year-at-requires
+    rebuild-requires
     loop-holds
     days-of-requires-2
     covers-requires
-    open-year-requires-2
+    year-at-requires-2
+    rebuild-requires-2
     loop-less
     loop-again
     open-period-requires
