@@ -39,11 +39,11 @@ yeardayPasses r y d = eitherEnd yeardays (r .byyearday) (yearday y d) (yearLengt
 abbrev pub weekOf : ℕ → ℕ → ℕ
 weekOf w d = d - (d + 7 - w) % 7
 
--- Week number: weeks from the week start, week 1 the first with four or more days in the year (Claims, WeekOneIs).
+-- Week number: weeks from the week start, week 1 the first with four or more days in the year (Meaning, WeekOneIs).
 unfoldable pub week1 : ℕ → ℕ → ℕ
 week1 w y = if leb (newYear y + 4) (weekOf w (newYear y) + 7) then weekOf w (newYear y) else weekOf w (newYear y) + 7
 
--- the week year of a day of the year y (Claims, WeekYearIs)
+-- the week year of a day of the year y (Meaning, WeekYearIs)
 unfoldable pub weekYear : ℕ → ℕ → ℕ → ℕ
 unfolding week1
 weekYear w y d = if ltb d (week1 w y) then y - 1 else if leb (week1 w (y + 1)) d then y + 1 else y
@@ -68,7 +68,7 @@ weekPasses r y d =
     numberPasses (r .byweekno) (weekNumber (r .wkst) own d) (weeksIn (r .wkst) own)
 
 -- The nth such weekday of a span: place p of n days is the ((p - 1) / 7 + 1)th of its weekday, and the ((n - p) / 7 + 1)th from the end
--- (Claims, NthIs and NthFromEndIs).
+-- (Meaning, NthIs and NthFromEndIs).
 abbrev pub nthOf : ℕ → ℕ
 nthOf p = (p - 1) / 7 + 1
 
