@@ -64,7 +64,8 @@ module _ (r : Rule) (c : Cursor) (x : Made) (p : Promised r c x) where
 pub demand-one : DemandOne
 demand-one r c x p = (
   subst (λ (s : Stop). (s ≡ Stop.Refused Fault.Record) ↔ (yielded r ≡ false)) (stop-is r c x p) (record-refused (periods r) (yielded r) c (given x)),
-  subst (λ (s : Stop). (s ≡ Stop.Refused Fault.Cursor) ↔ ((yielded r ≡ true) × (WellFormed (periods r) c → ⊥))) (stop-is r c x p) (cursor-refused (periods r) (yielded r) c (given x)),
+  subst (λ (s : Stop). (s ≡ Stop.Refused Fault.Cursor) ↔ ((yielded r ≡ true) × (WellFormed (periods r) c → ⊥))) (stop-is r c x p)
+      (cursor-refused (periods r) (yielded r) c (given x)),
   (λ fault e.
       let q : beside (x .answer) (x .after) ≡ beside (refusedAnswer fault c) (x .buffer) =
       sym (is-call r c x p) ∙ refused-as-given (periods r) (yielded r) c (given x) fault (stop-is r c x p ∙ e) in
@@ -76,6 +77,10 @@ movesOf : List Made → ℕ
 movesOf [] = 0
 movesOf (x ∷ xs) = x .answer .moves + movesOf xs
 
+-- what one of them told
+abbrev told : Made → Told ℕ
+told x = record { listed = take (x .answer .handed) (x .after); moves = x .answer .moves; cursor = x .answer .cursor }
+
 -- calls as promised tell what the machine's calls tell
 tell : (r : Rule) (c : Cursor) (xs : List Made) → Chain r c xs
     → chain (rule.callOf r) c (map given xs) ≡ record { listed = handedOut xs; moves = movesOf xs; cursor = leftBy c xs }
@@ -83,8 +88,8 @@ unfolding chain handedOut leftBy movesOf
 tell r c [] p = refl
 tell r c (x ∷ xs) p =
     ap (λ (t : Told ℕ). join t (chain (rule.callOf r) (rule.callOf r c (given x) .now .cursor) (map given xs))) (tells-is r c x (p .0))
-    ∙ ap (λ (d : Cursor). join (record { listed = take (x .answer .handed) (x .after); moves = x .answer .moves; cursor = x .answer .cursor }) (chain (rule.callOf r) d (map given xs))) (cursor-is r c x (p .0))
-    ∙ ap (λ (t : Told ℕ). join (record { listed = take (x .answer .handed) (x .after); moves = x .answer .moves; cursor = x .answer .cursor }) t) (tell r (x .answer .cursor) xs (p .1))
+    ∙ ap (λ (d : Cursor). join (told x) (chain (rule.callOf r) d (map given xs))) (cursor-is r c x (p .0))
+    ∙ ap (λ (t : Told ℕ). join (told x) t) (tell r (x .answer .cursor) xs (p .1))
 
 -- what the machine's calls keep to, the promised ones keep to
 stopped : (r : Rule) (c : Cursor) (x : Made) (p : Promised r c x) (s : Stop) → Reason (periods r) (x .budget) (rule.callOf r c (given x) .now) s → Stopped x s
@@ -106,7 +111,8 @@ all-keep : (r : Rule) (c : Cursor) (xs : List Made) → Chain r c xs → Each (r
 all-keep r c [] p q = tt
 all-keep r c (x ∷ xs) p q = (
   keeps r c x (p .0) (q .0),
-  all-keep r (x .answer .cursor) xs (p .1) (subst (λ (d : Cursor). Each (rule.callOf r) (KeepsTo (periods r)) d (map given xs)) (cursor-is r c x (p .0)) (q .1)),
+  all-keep r (x .answer .cursor) xs (p .1)
+      (subst (λ (d : Cursor). Each (rule.callOf r) (KeepsTo (periods r)) d (map given xs)) (cursor-is r c x (p .0)) (q .1)),
 )
 
 pub demand-three : DemandThree

@@ -26,36 +26,37 @@ use Rattle.walks.specs.Walks.{nowOf}
 use Rattle.settling.specs.Settling.{answerOf, heldOf}
 
 module _ (r : Rule) (c : Cursor) (buffer : List ℕ) (m : ℕ) (a : Answer) where
-  x : Call ℕ
+  abbrev x : Call ℕ
   x = record { buffer = buffer; budget = m }
 
   pub record-refused : yielded r ≡ false → a ≡ refusedAnswer Fault.Record c → beside a buffer ≡ runOf r c buffer m
   unfolding runOf
-  record-refused e f = ap (λ (y : Answer). beside y buffer) f ∙ sym (ap answered (call-record (yielded r) (periods r) c (record { buffer = buffer; budget = m }) e))
+  record-refused e f = ap (λ (y : Answer). beside y buffer) f ∙ sym (ap answered (call-record (yielded r) (periods r) c x e))
 
   module _ (good : yielded r ≡ true) where
     pub ended-returns : (cause : Cause) → c .state ≡ State.Ended cause → a ≡ answerOf Stop.Ended (c .state) (heldOf c) → beside a buffer ≡ runOf r c buffer m
     unfolding runOf run wellFormed
     ended-returns cause e f =
         ap (λ (y : Answer). beside y buffer) f
-        ∙ sym (ap answered (call-run (yielded r) (periods r) c (record { buffer = buffer; budget = m }) good (ap (λ (s : State). formedIn s (periods r) c) e)
-        ∙ ap (λ (s : State). resume (runs (periods r) m) s (opened c (record { buffer = buffer; budget = m }))) e))
+        ∙ sym (ap answered (call-run (yielded r) (periods r) c x good (ap (λ (s : State). formedIn s (periods r) c) e)
+        ∙ ap (λ (s : State). resume (runs (periods r) m) s (opened c x)) e))
 
     module _ (running : c .state ≡ State.Running) where
       pub cursor-refused : poised (periods r) c ≡ false → a ≡ refusedAnswer Fault.Cursor c → beside a buffer ≡ runOf r c buffer m
       unfolding runOf wellFormed
       cursor-refused e f =
           ap (λ (y : Answer). beside y buffer) f
-          ∙ sym (ap answered (call-cursor (yielded r) (periods r) c (record { buffer = buffer; budget = m }) good (ap (λ (s : State). formedIn s (periods r) c) running ∙ e)))
+          ∙ sym (ap answered (call-cursor (yielded r) (periods r) c x good (ap (λ (s : State). formedIn s (periods r) c) running ∙ e)))
 
-      held-now : opened c (record { buffer = buffer; budget = m }) ≡ nowOf State.Running (heldOf c) buffer
+      held-now : opened c x ≡ nowOf State.Running (heldOf c) buffer
       held-now = λ i. record { cursor = record { state = running i; k = c .k; place = c .place; number = c .number }; made = 0; handed = 0; buffer = buffer }
 
-      pub runs-on : poised (periods r) c ≡ true → (b : List ℕ) → beside a b ≡ answered (runs (periods r) m (nowOf State.Running (heldOf c) buffer)) → beside a b ≡ runOf r c buffer m
+      pub runs-on : poised (periods r) c ≡ true → (b : List ℕ) → beside a b ≡ answered (runs (periods r) m (nowOf State.Running (heldOf c) buffer))
+          → beside a b ≡ runOf r c buffer m
       unfolding runOf run wellFormed
       runs-on e b f =
-          f ∙ sym (ap answered (call-run (yielded r) (periods r) c (record { buffer = buffer; budget = m }) good (ap (λ (s : State). formedIn s (periods r) c) running ∙ e)
-          ∙ ap (λ (s : State). resume (runs (periods r) m) s (opened c (record { buffer = buffer; budget = m }))) running
+          f ∙ sym (ap answered (call-run (yielded r) (periods r) c x good (ap (λ (s : State). formedIn s (periods r) c) running ∙ e)
+          ∙ ap (λ (s : State). resume (runs (periods r) m) s (opened c x)) running
           ∙ ap (λ (s : Now ℕ). runs (periods r) m s) held-now))
 
       -- with INTERVAL 0 no running cursor is well formed

@@ -111,7 +111,8 @@ module _ {A : Type 0} (g : Given A) where
 
       at-until : Rest → (handed ≡ length buffer → ⊥) → (above (g .until) x ≡ true) ⊎ (above (g .until) x ≡ false)
           → Goal (compute.walk g (x ∷ xs) (running k place number made handed buffer))
-      at-until rest f (inl u) = rw (walk-until g x xs k place number made handed buffer f u) (here (State.Ended Cause.Until) k place number made handed buffer h)
+      at-until rest f (inl u) =
+          rw (walk-until g x xs k place number made handed buffer f u) (here (State.Ended Cause.Until) k place number made handed buffer h)
       at-until rest f (inr u) = at-start rest f u (decLt x (g .start))
 
       at-full : Rest → Dec (handed ≡ length buffer) → Goal (compute.walk g (x ∷ xs) (running k place number made handed buffer))
@@ -159,7 +160,8 @@ pub record Onward (w : Walked) (room m : ℕ) : Type 0 where
   pub free : w .held .handed ≡ room → ⊥
   pub unspent : w .held .moves ≡ m → ⊥
 
-pub settle-moves : (why : Why) (h : Held) (room m : ℕ) → settled (record { why = why; held = h }) room m ≡ Settled.Moves → Onward (record { why = why; held = h }) room m
+pub settle-moves : (why : Why) (h : Held) (room m : ℕ) → settled (record { why = why; held = h }) room m ≡ Settled.Moves
+    → Onward (record { why = why; held = h }) room m
 unfolding settled
 settle-moves Why.Full h room m e = absurd (clash _ (sym e))
 settle-moves Why.Until h room m e = absurd (clash _ (sym e))
@@ -193,18 +195,23 @@ module _ (g : Given ℕ) (s : Now ℕ) (left m : ℕ) (w : Walked) (buffer : Lis
   then-moves small k e =
       let counted : w .held .moves + 1 ≡ min (w .held .moves + 1) 4294967295 = omega (arith, one-left) in
       ap (λ (n : ℕ). compute.runs g n s) one-left
-      ∙ runs-to g s (w .held .cursor .k) (w .held .cursor .place) (w .held .cursor .number) (w .held .moves) (w .held .handed) buffer came (onward .free) (m - (w .held .moves + 1)) k e
+      ∙ runs-to g s (w .held .cursor .k) (w .held .cursor .place) (w .held .cursor .number) (w .held .moves) (w .held .handed) buffer came
+      (onward .free) (m - (w .held .moves + 1)) k e
       ∙ ap (λ (n : ℕ). compute.runs g (m - n) (running k 0 (w .held .cursor .number) n (w .held .handed) buffer)) counted
 
-  pub then-no-tick : g .move (w .held .cursor .k) ≡ NoTick → answered (compute.runs g left s) ≡ beside (answerOf Stop.Ended (State.Ended Cause.NoTick) (w .held)) buffer
+  pub then-no-tick : g .move (w .held .cursor .k) ≡ NoTick
+      → answered (compute.runs g left s) ≡ beside (answerOf Stop.Ended (State.Ended Cause.NoTick) (w .held)) buffer
   then-no-tick e =
       ap (λ (n : ℕ). answered (compute.runs g n s)) one-left
-      ∙ ap answered (runs-noTick g s (w .held .cursor .k) (w .held .cursor .place) (w .held .cursor .number) (w .held .moves) (w .held .handed) buffer came (onward .free) (m - (w .held .moves + 1)) e)
+      ∙ ap answered (runs-noTick g s (w .held .cursor .k) (w .held .cursor .place) (w .held .cursor .number) (w .held .moves) (w .held .handed) buffer came
+      (onward .free) (m - (w .held .moves + 1)) e)
 
-  pub then-range : g .move (w .held .cursor .k) ≡ Range → answered (compute.runs g left s) ≡ beside (answerOf Stop.Ended (State.Ended Cause.Range) (w .held)) buffer
+  pub then-range : g .move (w .held .cursor .k) ≡ Range
+      → answered (compute.runs g left s) ≡ beside (answerOf Stop.Ended (State.Ended Cause.Range) (w .held)) buffer
   then-range e =
       ap (λ (n : ℕ). answered (compute.runs g n s)) one-left
-      ∙ ap answered (runs-range g s (w .held .cursor .k) (w .held .cursor .place) (w .held .cursor .number) (w .held .moves) (w .held .handed) buffer came (onward .free) (m - (w .held .moves + 1)) e)
+      ∙ ap answered (runs-range g s (w .held .cursor .k) (w .held .cursor .place) (w .held .cursor .number) (w .held .moves) (w .held .handed) buffer came
+      (onward .free) (m - (w .held .moves + 1)) e)
 
 -- the candidates from a place on
 pub drop-tabled : (f : ℕ → ℕ) (n i p : ℕ) → p ≤ n → drop p (tabled f i n) ≡ tabled f (i + p) (n - p)
@@ -221,18 +228,21 @@ module _ (positioned : Bool) (f : Frame) (b : Bounds) (h : Held) (kept : ℕ) (d
     (framed : Framed f) (ready : Ready b h buffer) where
   pub by-places : positioned ≡ true → kept ≤ 732
       → placesWalk f b h kept places days lists buffer
-      ≡ compute.walk (givenBy b) (tabled (secondKept positioned f days lists places) (h .cursor .place) (kept - h .cursor .place)) (nowOf State.Running h buffer)
+      ≡ compute.walk (givenBy b) (tabled (secondKept positioned f days lists places) (h .cursor .place) (kept - h .cursor .place))
+      (nowOf State.Running h buffer)
   unfolding walkFrom secondKept
   by-places e l = places-walked f b h buffer kept places days lists l (is-walkable f b h buffer framed ready) ∙ rw e
 
   pub by-days : positioned ≡ false → kept ≡ f .days * f .times
       → daysWalk f b h days lists buffer
-      ≡ compute.walk (givenBy b) (tabled (secondKept positioned f days lists places) (h .cursor .place) (kept - h .cursor .place)) (nowOf State.Running h buffer)
+      ≡ compute.walk (givenBy b) (tabled (secondKept positioned f days lists places) (h .cursor .place) (kept - h .cursor .place))
+      (nowOf State.Running h buffer)
   unfolding walkFrom secondKept
   by-days e q = days-walked f b h buffer days lists (is-walkable f b h buffer framed ready) ∙ rw (e, q)
 
 -- a call is as ready after days were passed
-pub ready-passed : (full : Bool) (f : Frame) (b : Bounds) (h : Held) (days buffer : List ℕ) (r : Held) → r ≡ passedDays full f b h days → Ready b h buffer → Ready b r buffer
+pub ready-passed : (full : Bool) (f : Frame) (b : Bounds) (h : Held) (days buffer : List ℕ) (r : Held)
+    → r ≡ passedDays full f b h days → Ready b h buffer → Ready b r buffer
 ready-passed full f b h days buffer r e y =
     subst (λ (x : Held). Ready b x buffer) (sym (e ∙ passed-holds full f b h days)) (record { start = y .start; handed = y .handed; number = y .number })
 
@@ -243,7 +253,8 @@ pub passed-same : (f : Frame) (b : Bounds) (h : Held) (days lists buffer : List 
 passed-same f b h days lists buffer r v z y e =
     days-walked f b r buffer days lists (is-walkable f b r buffer v (ready-passed _ f b h days buffer r e y))
     ∙ ap (λ (x : Held). walkFrom b (secondAt f days lists) (f .days * f .times) x buffer) e
-    ∙ sym (passed-walks (ltb 0 (h .cursor .number) || eqb (h .handed) (length buffer)) f b h days lists buffer (λ q. eqb-false _ _ (neither (ltb 0 (h .cursor .number)) (eqb (h .handed) (length buffer)) q .1)) z)
+    ∙ sym (passed-walks (ltb 0 (h .cursor .number) || eqb (h .handed) (length buffer)) f b h days lists buffer
+    (λ q. eqb-false _ _ (neither (ltb 0 (h .cursor .number)) (eqb (h .handed) (length buffer)) q .1)) z)
     ∙ sym (days-walked f b h buffer days lists (is-walkable f b h buffer v y))
 
 -- where nothing is kept there is nothing to walk over

@@ -76,8 +76,12 @@ fn period_days<'a, 'b>(
     nths: &'b [bool; 373],
     days: &mut [u16; 373],
 ) -> usize
-    ensures count { λ r. ⌜ r ≡ length (daySet asked (infoBy year (now (months .entry)) (now (monthdays .entry)) (now (fromends .entry)) (now (weeks .entry)) (now (nths .entry))) (dayLists (now (bymonth .entry)) (now (bymonthday .entry)) (now (byyearday .entry)) (now (byday .entry))) from to) ⌝ }
-    ensures places { λ r. ⌜ now (days .exit) ≡ sets (now (days .entry)) 0 (daySet asked (infoBy year (now (months .entry)) (now (monthdays .entry)) (now (fromends .entry)) (now (weeks .entry)) (now (nths .entry))) (dayLists (now (bymonth .entry)) (now (bymonthday .entry)) (now (byyearday .entry)) (now (byday .entry))) from to) ⌝ }
+    ensures count { λ r. ⌜ r ≡ length (daySet asked
+        (infoBy year (now (months .entry)) (now (monthdays .entry)) (now (fromends .entry)) (now (weeks .entry)) (now (nths .entry)))
+        (dayLists (now (bymonth .entry)) (now (bymonthday .entry)) (now (byyearday .entry)) (now (byday .entry))) from to) ⌝ }
+    ensures places { λ r. ⌜ now (days .exit) ≡ sets (now (days .entry)) 0 (daySet asked
+        (infoBy year (now (months .entry)) (now (monthdays .entry)) (now (fromends .entry)) (now (weeks .entry)) (now (nths .entry)))
+        (dayLists (now (bymonth .entry)) (now (bymonthday .entry)) (now (byyearday .entry)) (now (byday .entry))) from to) ⌝ }
 {
     if is_plain(asked) {
         return plain_days(year.long, from, to, days);
@@ -220,9 +224,17 @@ pub fn open_period<'a, 'b>(
     days: &mut [u16; 373],
     places: &mut [u32; 732],
 ) -> Period
-    ensures period { λ r. ⌜ r ≡ periodBy shape (year .first) (length (daysBy shape (infoBy year (now (months .entry)) (now (monthdays .entry)) (now (fromends .entry)) (now (weeks .entry)) (now (nths .entry))) (dayLists (now (bymonth .entry)) (now (bymonthday .entry)) (now (byyearday .entry)) (now (byday .entry))) span)) tick (now (clock .entry)) (now (bysetpos .entry)) ⌝ }
-    ensures days { λ r. ⌜ now (days .exit) ≡ sets (now (days .entry)) 0 (daysBy shape (infoBy year (now (months .entry)) (now (monthdays .entry)) (now (fromends .entry)) (now (weeks .entry)) (now (nths .entry))) (dayLists (now (bymonth .entry)) (now (bymonthday .entry)) (now (byyearday .entry)) (now (byday .entry))) span) ⌝ }
-    ensures places { λ r. ⌜ now (places .exit) ≡ chosenBy shape (year .first) (length (daysBy shape (infoBy year (now (months .entry)) (now (monthdays .entry)) (now (fromends .entry)) (now (weeks .entry)) (now (nths .entry))) (dayLists (now (bymonth .entry)) (now (bymonthday .entry)) (now (byyearday .entry)) (now (byday .entry))) span)) tick (now (clock .entry)) (now (bysetpos .entry)) (now (places .entry)) ⌝ }
+    ensures period { λ r. ⌜ r ≡ periodBy shape (year .first) (length (daysBy shape
+        (infoBy year (now (months .entry)) (now (monthdays .entry)) (now (fromends .entry)) (now (weeks .entry)) (now (nths .entry)))
+        (dayLists (now (bymonth .entry)) (now (bymonthday .entry)) (now (byyearday .entry)) (now (byday .entry))) span))
+        tick (now (clock .entry)) (now (bysetpos .entry)) ⌝ }
+    ensures days { λ r. ⌜ now (days .exit) ≡ sets (now (days .entry)) 0 (daysBy shape
+        (infoBy year (now (months .entry)) (now (monthdays .entry)) (now (fromends .entry)) (now (weeks .entry)) (now (nths .entry)))
+        (dayLists (now (bymonth .entry)) (now (bymonthday .entry)) (now (byyearday .entry)) (now (byday .entry))) span) ⌝ }
+    ensures places { λ r. ⌜ now (places .exit) ≡ chosenBy shape (year .first) (length (daysBy shape
+        (infoBy year (now (months .entry)) (now (monthdays .entry)) (now (fromends .entry)) (now (weeks .entry)) (now (nths .entry)))
+        (dayLists (now (bymonth .entry)) (now (bymonthday .entry)) (now (byyearday .entry)) (now (byday .entry))) span))
+        tick (now (clock .entry)) (now (bysetpos .entry)) (now (places .entry)) ⌝ }
 {
     let freq = shape.freq;
     let first = year.first;
