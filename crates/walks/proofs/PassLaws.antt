@@ -65,11 +65,15 @@ module _ (full : Bool) (f : Frame) (b : Bounds) (h : Held) (days : List ℕ) (d 
     (g : isFramed f ≡ true) where
   pub none-passed : (d * f .times ≡ h .cursor .place → ⊥) → passedDays full f b h days ≡ h
   unfolding passedDays
-  none-passed q = let z : eqb (h .cursor .place % f .times) 0 ≡ false = sym (at-beginning (h .cursor .place) d (f .times) e) ∙ ne-eqb _ _ q in rw (t, g, z, passedDays)
+  none-passed q =
+      let z : eqb (h .cursor .place % f .times) 0 ≡ false = sym (at-beginning (h .cursor .place) d (f .times) e) ∙ ne-eqb _ _ q in
+      rw (t, g, z, passedDays)
 
   pub days-passed : d * f .times ≡ h .cursor .place → passedDays full f b h days ≡ heldAt h (Leads b f days (f .days) d (h .cursor .place))
   unfolding passedDays Leads
-  days-passed q = let z : eqb (h .cursor .place % f .times) 0 ≡ true = sym (at-beginning (h .cursor .place) d (f .times) e) ∙ eq-eqb _ _ q in rw (t, g, z, passedDays, e)
+  days-passed q =
+      let z : eqb (h .cursor .place % f .times) 0 ≡ true = sym (at-beginning (h .cursor .place) d (f .times) e) ∙ eq-eqb _ _ q in
+      rw (t, g, z, passedDays, e)
 
 module _ (b : Bounds) (f : Frame) (days : List ℕ) (n d place : ℕ) where
   pub leads-on : d < n → isPassed b (lastOf f days d) ≡ true → Leads b f days n d place ≡ Leads b f days n (d + 1) (place + f .times)

@@ -113,10 +113,12 @@ module _ (full : Bool) (f : Frame) (b : Bounds) (h : Held) (days : List ℕ) whe
   unfolding passedDays passable
   passed-cases P none some = step (not full && (isFramed f && eqb (h .cursor .place % f .times) 0)) refl
     where
-      beyond : f .days < h .cursor .place / f .times → P (heldAt h (h .cursor .place + passable b f days (h .cursor .place / f .times) (f .days - h .cursor .place / f .times) * f .times))
+      beyond : f .days < h .cursor .place / f .times
+          → P (heldAt h (h .cursor .place + passable b f days (h .cursor .place / f .times) (f .days - h .cursor .place / f .times) * f .times))
       beyond l =
           let z : f .days - h .cursor .place / f .times ≡ 0 = omega arith in
-          let e : h .cursor .place + passable b f days (h .cursor .place / f .times) (f .days - h .cursor .place / f .times) * f .times ≡ h .cursor .place = rw z (omega arith) in
+          let e : h .cursor .place + passable b f days (h .cursor .place / f .times) (f .days - h .cursor .place / f .times) * f .times ≡ h .cursor .place =
+          rw z (omega arith) in
           subst (λ (p : ℕ). P (heldAt h p)) (sym e) none
 
       step : (t : Bool) → (not full && (isFramed f && eqb (h .cursor .place % f .times) 0)) ≡ t → P (elim t [
@@ -141,7 +143,8 @@ module _ (full : Bool) (f : Frame) (b : Bounds) (h : Held) (days : List ℕ) whe
   passed-within k =
       passed-cases (λ (r : Held). r .cursor .place ≤ f .days * f .times) k
       (λ a e l.
-      let m : (h .cursor .place / f .times + passable b f days (h .cursor .place / f .times) (f .days - h .cursor .place / f .times)) * f .times ≤ f .days * f .times =
+      let m : (h .cursor .place / f .times + passable b f days (h .cursor .place / f .times) (f .days - h .cursor .place / f .times)) * f .times
+      ≤ f .days * f .times =
       mul-le-mul-right (f .times) (omega (arith, passable-short b f days (h .cursor .place / f .times) (f .days - h .cursor .place / f .times))) in
       omega (arith, add-mul (h .cursor .place / f .times) (passable b f days (h .cursor .place / f .times) (f .days - h .cursor .place / f .times)) (f .times)))
 

@@ -22,8 +22,8 @@ use Rattle.walks.proofs.rrule_iter.walk_days.Tie as tie
 -- as many numbered as handed out since, room for what is handed out, and the cursor's state as it was
 abbrev Counted : Held → Held → List ℕ → List ℕ → Type 0
 Counted h₀ h buffer₀ buffer =
-    (h₀ .handed ≤ h .handed) × (h .cursor .number + h₀ .handed ≡ h₀ .cursor .number + h .handed) × (h .handed ≤ length buffer) × (length buffer ≡ length buffer₀)
-    × (h .cursor .state ≡ h₀ .cursor .state)
+    (h₀ .handed ≤ h .handed) × (h .cursor .number + h₀ .handed ≡ h₀ .cursor .number + h .handed) × (h .handed ≤ length buffer)
+    × (length buffer ≡ length buffer₀) × (h .cursor .state ≡ h₀ .cursor .state)
 
 abbrev Inv-loop : tie.InvT-loop
 Inv-loop frame bounds days lists buffer₀ why₀ at₀ first-day time₀ day day-end buffer why at time =
@@ -86,7 +86,8 @@ state-kept c = c .loop .inv .3 .4 ∙ c .before .before .days .inv .3 .4
 there : (c : tie.Then3 Inv-loop μ-loop Inv-days μ-days) →
     let l = c .before .before in
     let d = l .before .before in
-    l .loop .at .cursor .place ≡ d .days .day * d .before .before .before .before .before .before .before .before .before .before .args .frame .times + l .loop .time
+    let a = d .before .before .before .before .before .before .before .before .before .before .args in
+    l .loop .at .cursor .place ≡ d .days .day * a .frame .times + l .loop .time
 there c = let l = c .before .before in let d = l .before .before in omega (arith, l .loop .inv .2, d .days .inv .2)
 
 within : (c : tie.Then3 Inv-loop μ-loop Inv-days μ-days) →
@@ -236,7 +237,9 @@ add-number : tie.Need-add-number Inv-loop μ-loop Inv-days μ-days
 add-number c = record { fits = omega (arith, number-small (c .before .before .before .before .before .before .before .before .before .before .before)) }
 
 add-at : tie.Need-add-at Inv-loop μ-loop Inv-days μ-days
-add-at c = record { fits = omega (arith, handed-small (c .before .before .before .before .before .before .before .before .before .before .before .before .before)) }
+add-at c =
+    let l = c .before .before .before .before .before .before .before .before .before .before .before .before .before in
+    record { fits = omega (arith, handed-small l) }
 
 is-reached-requires : tie.Need-is-reached-requires Inv-loop μ-loop Inv-days μ-days
 is-reached-requires c κs = search needs

@@ -165,7 +165,9 @@ add-number : tie.Need-add-number Inv-loop μ-loop
 add-number c = record { fits = omega (arith, number-small (c .before .before .before .before .before .before .before .before .before .before .before)) }
 
 add-at : tie.Need-add-at Inv-loop μ-loop
-add-at c = record { fits = omega (arith, handed-small (c .before .before .before .before .before .before .before .before .before .before .before .before .before)) }
+add-at c =
+    let l = c .before .before .before .before .before .before .before .before .before .before .before .before .before in
+    record { fits = omega (arith, handed-small l) }
 
 is-reached-requires : tie.Need-is-reached-requires Inv-loop μ-loop
 is-reached-requires c κs = search needs
