@@ -1,17 +1,16 @@
 -- Months: what is claimed of a year's days and months, by one computed test each.
 -- Assumes nothing.
-use mathlib.Core.Path.{_≡_, refl, sym, _∙_, ap}
+use mathlib.Core.Path.{_≡_, refl}
 use mathlib.Core.Bool.{Bool, true, false, _&&_}
-use Prim.Native.Nat.{ℕ, zero, suc, _+_, _-_, _≤_, _<_, min}
+use Prim.Native.Nat.{ℕ, _+_, _-_, _≤_, _<_}
 use native.Mathlib.Omega.{arith}
 use native.Mathlib.Nat.{mod-eq-of-lt}
-use native.Mathlib.Decide.{decLe}
 use mathlib.Core.List.{_∷_}
-use lib.ListN.{getD, take, List·getD-eq-default}
-use lib.Seq.{take-all}
+use lib.ListN.{getD, List·getD-eq-default}
 use lib.Dec.{eqb, leb}
 use borrow.Author.Tests.{eqb-true, leb-true, le-ltb, lt-ltb}
-use Rattle.calendar.specs.Calendar.{if_then_else_, leap, daysOf, newYear, monthLengths, monthLength, total, daysBeforeMonth, firstOf, MonthDay, monthDayOf, noDay, tableDay, yearTable}
+use Rattle.calendar.specs.Calendar.{if_then_else_, leap, daysOf, newYear, monthLengths, monthLength, daysBeforeMonth, firstOf, MonthDay}
+use Rattle.calendar.specs.Calendar.{monthDayOf, noDay, tableDay, yearTable}
 use Rattle.calendar.specs.Claims.{MonthsFollow, DecemberEnds}
 use Rattle.calendar.proofs.Table.{tab-at, same-below}
 use Rattle.calendar.proofs.Years.{years-follow}
@@ -34,17 +33,6 @@ pub whole-year : (long : Bool) → daysBeforeMonth long 13 ≡ daysOf long
 unfolding daysBeforeMonth
 whole-year true = refl
 whole-year false = refl
-
--- A month's place in the tables of months is its number less 1, and behind December it is 12.
-pub at-place : (long : Bool) (m : ℕ) → daysBeforeMonth long (min (m - 1) 12 + 1) ≡ daysBeforeMonth long m
-unfolding daysBeforeMonth
-at-place long m = ap total (capped (decLe (m - 1) 12))
-  where
-    capped : Dec (m - 1 ≤ 12) → take (min (m - 1) 12 + 1 - 1) (monthLengths long) ≡ take (m - 1) (monthLengths long)
-    capped (yes h) = let e : min (m - 1) 12 + 1 - 1 ≡ m - 1 = omega arith in rw e
-    capped (no h) =
-        let e : min (m - 1) 12 + 1 - 1 ≡ 12 = omega arith in
-        rw (e, take-all (m - 1) (monthLengths long) (omega arith)) (take-all 12 (monthLengths long) (omega arith))
 
 pub months-follow : MonthsFollow
 unfolding firstOf

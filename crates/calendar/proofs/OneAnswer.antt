@@ -2,24 +2,6 @@
 -- Assumes nothing.
 use Rattle.calendar.proofs.AsksNothing.{AsksNothing, nothing-asked}
 use Rattle.calendar.proofs.Determines.{Determines, one-answer}
-use Rattle.calendar.proofs.masks.month_at.Kinds as month-at-kinds
-use Rattle.calendar.proofs.masks.month_at.Reads as month-at
-use Rattle.calendar.proofs.masks.month_day_at.Kinds as month-day-at-kinds
-use Rattle.calendar.proofs.masks.month_day_at.Reads as month-day-at
-use Rattle.calendar.proofs.masks.month_day_from_end_at.Kinds as month-day-from-end-at-kinds
-use Rattle.calendar.proofs.masks.month_day_from_end_at.Reads as month-day-from-end-at
-use Rattle.calendar.proofs.masks.month_table.Kinds as month-table-kinds
-use Rattle.calendar.proofs.masks.month_table.Reads as month-table
-use Rattle.calendar.proofs.masks.month_day_table.Kinds as month-day-table-kinds
-use Rattle.calendar.proofs.masks.month_day_table.Reads as month-day-table
-use Rattle.calendar.proofs.masks.month_day_from_end_table.Kinds as month-day-from-end-table-kinds
-use Rattle.calendar.proofs.masks.month_day_from_end_table.Reads as month-day-from-end-table
-use Rattle.calendar.proofs.masks.days_before_month.Kinds as days-before-month-kinds
-use Rattle.calendar.proofs.masks.days_before_month.Reads as days-before-month
-use Rattle.calendar.proofs.masks.month_length.Kinds as month-length-kinds
-use Rattle.calendar.proofs.masks.month_length.Reads as month-length
-use Rattle.calendar.proofs.utils.date_from_ordinal.Kinds as date-from-ordinal-kinds
-use Rattle.calendar.proofs.utils.date_from_ordinal.Reads as date-from-ordinal
 use Rattle.calendar.proofs.utils.is_leap_year.Kinds as is-leap-year-kinds
 use Rattle.calendar.proofs.utils.is_leap_year.Reads as is-leap-year
 use Rattle.calendar.proofs.utils.get_year_len.Kinds as get-year-len-kinds
@@ -30,37 +12,6 @@ use Rattle.calendar.proofs.utils.weekday_of_new_year.Kinds as weekday-o
 use Rattle.calendar.proofs.utils.weekday_of_new_year.Reads as weekday-of-new-year
 use Rattle.calendar.proofs.utils.year_of_day.Kinds as year-of-day-kinds
 use Rattle.calendar.proofs.utils.year_of_day.Reads as year-of-day
-use Rattle.calendar.proofs.utils.day_of_date.Kinds as day-of-date-kinds
-use Rattle.calendar.proofs.utils.day_of_date.Reads as day-of-date
-use Rattle.calendar.proofs.utils.weekday_of_day.Kinds as weekday-of-day-kinds
-use Rattle.calendar.proofs.utils.weekday_of_day.Reads as weekday-of-day
-
-pub month-at-has-one : Determines 0 month-at-kinds.ps month-at-kinds.r month-at.Post
-month-at-has-one κs a x y e f = one-answer
-
-pub month-day-at-has-one : Determines 0 month-day-at-kinds.ps month-day-at-kinds.r month-day-at.Post
-month-day-at-has-one κs a x y e f = one-answer
-
-pub month-day-from-end-at-has-one : Determines 0 month-day-from-end-at-kinds.ps month-day-from-end-at-kinds.r month-day-from-end-at.Post
-month-day-from-end-at-has-one κs a x y e f = one-answer
-
-pub month-table-has-one : Determines 0 month-table-kinds.ps month-table-kinds.r month-table.Post
-month-table-has-one κs a x y e f = one-answer
-
-pub month-day-table-has-one : Determines 0 month-day-table-kinds.ps month-day-table-kinds.r month-day-table.Post
-month-day-table-has-one κs a x y e f = one-answer
-
-pub month-day-from-end-table-has-one : Determines 0 month-day-from-end-table-kinds.ps month-day-from-end-table-kinds.r month-day-from-end-table.Post
-month-day-from-end-table-has-one κs a x y e f = one-answer
-
-pub days-before-month-has-one : Determines 0 days-before-month-kinds.ps days-before-month-kinds.r days-before-month.Post
-days-before-month-has-one κs a x y e f = one-answer
-
-pub month-length-has-one : Determines 0 month-length-kinds.ps month-length-kinds.r month-length.Post
-month-length-has-one κs a x y e f = one-answer
-
-pub date-from-ordinal-has-one : Determines 0 date-from-ordinal-kinds.ps date-from-ordinal-kinds.r date-from-ordinal.Post
-date-from-ordinal-has-one κs a x y e f = one-answer
 
 pub is-leap-year-has-one : Determines 0 is-leap-year-kinds.ps is-leap-year-kinds.r is-leap-year.Post
 is-leap-year-has-one κs a x y e f = one-answer
@@ -77,31 +28,7 @@ weekday-of-new-year-has-one κs a x y e f = one-answer
 pub year-of-day-has-one : Determines 0 year-of-day-kinds.ps year-of-day-kinds.r year-of-day.Post
 year-of-day-has-one κs a x y e f = one-answer
 
-pub day-of-date-has-one : Determines 0 day-of-date-kinds.ps day-of-date-kinds.r day-of-date.Post
-day-of-date-has-one κs a x y e f = one-answer
-
-pub weekday-of-day-has-one : Determines 0 weekday-of-day-kinds.ps weekday-of-day-kinds.r weekday-of-day.Post
-weekday-of-day-has-one κs a x y e f = one-answer
-
 -- and none asks anything of its callers
-pub month-at-asks-nothing : AsksNothing 0 month-at-kinds.ps month-at.requires
-month-at-asks-nothing κs a = nothing-asked
-
-pub month-day-at-asks-nothing : AsksNothing 0 month-day-at-kinds.ps month-day-at.requires
-month-day-at-asks-nothing κs a = nothing-asked
-
-pub month-day-from-end-at-asks-nothing : AsksNothing 0 month-day-from-end-at-kinds.ps month-day-from-end-at.requires
-month-day-from-end-at-asks-nothing κs a = nothing-asked
-
-pub days-before-month-asks-nothing : AsksNothing 0 days-before-month-kinds.ps days-before-month.requires
-days-before-month-asks-nothing κs a = nothing-asked
-
-pub month-length-asks-nothing : AsksNothing 0 month-length-kinds.ps month-length.requires
-month-length-asks-nothing κs a = nothing-asked
-
-pub date-from-ordinal-asks-nothing : AsksNothing 0 date-from-ordinal-kinds.ps date-from-ordinal.requires
-date-from-ordinal-asks-nothing κs a = nothing-asked
-
 pub is-leap-year-asks-nothing : AsksNothing 0 is-leap-year-kinds.ps is-leap-year.requires
 is-leap-year-asks-nothing κs a = nothing-asked
 
@@ -116,18 +43,3 @@ weekday-of-new-year-asks-nothing κs a = nothing-asked
 
 pub year-of-day-asks-nothing : AsksNothing 0 year-of-day-kinds.ps year-of-day.requires
 year-of-day-asks-nothing κs a = nothing-asked
-
-pub day-of-date-asks-nothing : AsksNothing 0 day-of-date-kinds.ps day-of-date.requires
-day-of-date-asks-nothing κs a = nothing-asked
-
-pub weekday-of-day-asks-nothing : AsksNothing 0 weekday-of-day-kinds.ps weekday-of-day.requires
-weekday-of-day-asks-nothing κs a = nothing-asked
-
-pub month-table-asks-nothing : AsksNothing 0 month-table-kinds.ps month-table.requires
-month-table-asks-nothing κs a = nothing-asked
-
-pub month-day-table-asks-nothing : AsksNothing 0 month-day-table-kinds.ps month-day-table.requires
-month-day-table-asks-nothing κs a = nothing-asked
-
-pub month-day-from-end-table-asks-nothing : AsksNothing 0 month-day-from-end-table-kinds.ps month-day-from-end-table.requires
-month-day-from-end-table-asks-nothing κs a = nothing-asked

@@ -1,8 +1,7 @@
-// Days, years and dates.
-use crate::masks;
+// Days and years, and what a date is.
 ghost use mathlib.Core.Path.{_≡_};
-ghost use Prim.Native.Nat.{_+_, _-_, _%_};
-ghost use Rattle.calendar.specs.Calendar.{leap, yearLength, newYear, yearOf, dayOfDate, dateOf, weekday};
+ghost use Prim.Native.Nat.{_-_};
+ghost use Rattle.calendar.specs.Calendar.{leap, yearLength, newYear, yearOf, weekday};
 
 // A date: year, month and day of the month count from 1; length is the month's.
 pub struct Date {
@@ -10,22 +9,6 @@ pub struct Date {
     pub month: u8,
     pub day: u8,
     pub length: u8,
-}
-
-// The date of a day.
-pub fn date_from_ordinal(day: u32) -> Date
-    ensures { λ r. ⌜ r ≡ dateOf day ⌝ }
-{
-    let year = year_of_day(day);
-    let long = is_leap_year(year);
-    let place = ((day as u64) - days_before_year(year)) as usize;
-    let month_day = masks::month_day_at(long, place);
-    Date {
-        year,
-        month: masks::month_at(long, place),
-        day: month_day,
-        length: month_day + masks::month_day_from_end_at(long, place) - 1,
-    }
 }
 
 // Whether a year has 366 days.
@@ -74,19 +57,4 @@ pub fn year_of_day(day: u32) -> u32
     } else {
         year
     }
-}
-
-// The day of a date.
-pub fn day_of_date(year: u32, month: u8, day: u8) -> u64
-    ensures { λ r. ⌜ r ≡ dayOfDate year month day ⌝ }
-{
-    let before = masks::days_before_month(is_leap_year(year), month) as u64;
-    days_before_year(year) + before + (one_less(day as u32) as u64)
-}
-
-// The weekday of a day, where Monday is 0.
-pub fn weekday_of_day(day: u32) -> u8
-    ensures { λ r. ⌜ r ≡ weekday day ⌝ }
-{
-    (day % 7) as u8
 }

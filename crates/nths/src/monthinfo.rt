@@ -2,8 +2,8 @@
 // that it passes.
 use crate::places::year_day;
 use crate::places::year_day_from_end;
-use calendar::masks::month_day_from_end_table;
-use calendar::masks::month_day_table;
+use dates::masks::month_day_from_end_table;
+use dates::masks::month_day_table;
 use weeks::yearinfo::Year;
 ghost use mathlib.Core.Path.{_≡_};
 ghost use mathlib.Core.Bool.{true, false};

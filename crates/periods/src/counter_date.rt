@@ -1,5 +1,6 @@
 // The counter of a period, in and out by value.
-use calendar::utils;
+use calendar::utils::year_of_day;
+use dates::utils::date_from_ordinal;
 use rule::rrule::Frequency;
 ghost use mathlib.Core.Path.{_≡_};
 ghost use Prim.Native.Nat.{_+_, _*_, _<_, _≤_, min};
@@ -54,7 +55,7 @@ fn number_of(freq: Frequency, wkst: u8, second: u64) -> u64
     ensures { λ r. ⌜ r ≡ numberOf freq wkst second ⌝ }
 {
     match freq {
-        Frequency::Yearly => utils::year_of_day((second / 86400) as u32) as u64,
+        Frequency::Yearly => year_of_day((second / 86400) as u32) as u64,
         Frequency::Monthly => month_of((second / 86400) as u32),
         Frequency::Weekly => week_of(wkst, second / 86400),
         Frequency::Daily => second / 86400,
@@ -68,7 +69,7 @@ fn number_of(freq: Frequency, wkst: u8, second: u64) -> u64
 fn month_of(day: u32) -> u64
     ensures { λ r. ⌜ r ≡ monthsBefore day ⌝ }
 {
-    let date = utils::date_from_ordinal(day);
+    let date = date_from_ordinal(day);
     12 * (date.year as u64) + (date.month as u64) - 1
 }
 

@@ -1,5 +1,6 @@
 // The days of a period, by its number.
-use calendar::utils;
+use calendar::utils::days_before_year;
+use dates::utils::day_of_date;
 use rule::rrule::Frequency;
 ghost use mathlib.Core.Path.{_≡_};
 ghost use Prim.Native.Nat.{_≤_, min, max};
@@ -42,8 +43,8 @@ fn days_of_year(number: u64) -> Days
     }
     let year = number as u32;
     Days {
-        from: utils::days_before_year(year),
-        to: utils::days_before_year(year + 1),
+        from: days_before_year(year),
+        to: days_before_year(year + 1),
     }
 }
 
@@ -65,7 +66,7 @@ fn first_of_month(number: u64) -> u64
     requires { ⌜ number ≤ 120000 ⌝ }
     ensures { λ r. ⌜ r ≡ firstOfMonth number ⌝ }
 {
-    utils::day_of_date((number / 12) as u32, (number % 12 + 1) as u8, 1)
+    day_of_date((number / 12) as u32, (number % 12 + 1) as u8, 1)
 }
 
 // The days of the week that begins on a day: none before week period 0, nor after 9999.

@@ -2,7 +2,7 @@
 use crate::entries::take_slot;
 use basics::lists::is_empty;
 use basics::rrule::frequency_number;
-use calendar::utils;
+use dates::utils;
 use rule::rrule::Rule;
 use rule::rrule::Slot;
 ghost use mathlib.Core.Path.{_≡_};

@@ -1,8 +1,8 @@
 // A year with its tables and masks, as the day test needs them.
 use crate::lists::Asked;
-use calendar::masks::month_day_from_end_table;
-use calendar::masks::month_day_table;
-use calendar::masks::month_table;
+use dates::masks::month_day_from_end_table;
+use dates::masks::month_day_table;
+use dates::masks::month_table;
 use nths::monthinfo::neg_weekday_mask;
 use weeks::yearinfo::Year;
 use weeks::yearinfo::week_no_mask;

@@ -1,14 +1,14 @@
--- `calendar::masks::month_day_at` meets its contract: each table is what the calendar says at each place, by one computed test.
+-- `dates::masks::month_day_at` meets its contract: each table is what the calendar says at each place, by one computed test.
 -- Assumes nothing.
 use mathlib.Core.Bool.{true, false}
 use mathlib.Core.Path.{ap}
 use Prim.Native.Nat.{ℕ}
 use borrow.Author.Needs.{needs}
 use Rattle.calendar.specs.Calendar.{tableDay}
 use Rattle.calendar.proofs.Table.{tab-at}
 use Rattle.calendar.proofs.Months.{past-table}
-use Rattle.calendar.proofs.masks.month_day_at.Statement.{statement}
-use Rattle.calendar.proofs.masks.month_day_at.Tie as tie
+use Rattle.dates.proofs.masks.month_day_at.Statement.{statement}
+use Rattle.dates.proofs.masks.month_day_at.Tie as tie
 
 array-read-result : tie.Need-array-read-result
 array-read-result c = search needs

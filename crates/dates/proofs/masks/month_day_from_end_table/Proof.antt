@@ -1,10 +1,10 @@
--- `calendar::masks::month_day_from_end_table` meets its contract: each table is what the calendar says, by one computed test.
+-- `dates::masks::month_day_from_end_table` meets its contract: each table is what the calendar says, by one computed test.
 -- Assumes nothing.
 use mathlib.Core.Path.{refl, _∙_}
 use borrow.Author.Needs.{needs}
 use Rattle.calendar.specs.Calendar.{yearTable}
-use Rattle.calendar.proofs.masks.month_day_from_end_table.Statement.{statement}
-use Rattle.calendar.proofs.masks.month_day_from_end_table.Tie as tie
+use Rattle.dates.proofs.masks.month_day_from_end_table.Statement.{statement}
+use Rattle.dates.proofs.masks.month_day_from_end_table.Tie as tie
 
 with-no-day-requires : tie.Need-with-no-day-requires
 with-no-day-requires c κs = search needs

@@ -1,12 +1,12 @@
--- `calendar::utils::date_from_ordinal` meets its contract: the tables' row of the day's place in its year is the day's month, day and month length.
+-- `dates::utils::date_from_ordinal` meets its contract: the tables' row of the day's place in its year is the day's month, day and month length.
 -- Assumes nothing.
 use mathlib.Core.Path.{sym, _∙_}
 use native.Mathlib.Omega.{arith}
 use borrow.Author.Needs.{needs}
-use Rattle.calendar.proofs.Dates.{TableDate, table-date}
 use Rattle.calendar.proofs.Years.{year-of-is}
-use Rattle.calendar.proofs.utils.date_from_ordinal.Statement.{statement}
-use Rattle.calendar.proofs.utils.date_from_ordinal.Tie as tie
+use Rattle.dates.proofs.TableDates.{TableDate, table-date}
+use Rattle.dates.proofs.utils.date_from_ordinal.Statement.{statement}
+use Rattle.dates.proofs.utils.date_from_ordinal.Tie as tie
 
 year-of-day-requires : tie.Need-year-of-day-requires
 year-of-day-requires c κs = search needs
@@ -32,7 +32,8 @@ month-day-from-end-at-requires c κs = search needs
 -- what is known behind the last call
 read-off : (c : tie.After-month-day-from-end-at)
     → TableDate (c .before .before .before .before .before .before .args .day) (c .before .before .before .before .before .year-of-day .result)
-    (c .before .before .before .days-before-year .result) (c .before .month-at .result) (c .before .before .month-day-at .result) (c .month-day-from-end-at .result)
+    (c .before .before .before .days-before-year .result) (c .before .month-at .result) (c .before .before .month-day-at .result)
+    (c .month-day-from-end-at .result)
 read-off c =
     let a = c .before .before .before in
     table-date (a .before .before .before .args .day) _ _ _ _ _ (a .before .is-leap-year .result)

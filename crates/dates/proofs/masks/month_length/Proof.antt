@@ -1,11 +1,11 @@
--- `calendar::masks::month_length` meets its contract.
+-- `dates::masks::month_length` meets its contract.
 -- Assumes nothing.
 use mathlib.Core.Path.{sym}
 use native.Mathlib.Omega.{arith}
 use borrow.Author.Needs.{needs}
 use Rattle.calendar.proofs.Months.{next-month, at-most-31, no-month}
-use Rattle.calendar.proofs.masks.month_length.Statement.{statement}
-use Rattle.calendar.proofs.masks.month_length.Tie as tie
+use Rattle.dates.proofs.masks.month_length.Statement.{statement}
+use Rattle.dates.proofs.masks.month_length.Tie as tie
 
 returns : tie.Need-returns
 returns c = sym (no-month (c .before .args .long) (c .before .args .month) (omega arith))

@@ -1,4 +1,4 @@
--- `calendar::masks::with_no_day` meets its contract. The loop's invariant: what is still to be copied completes the table.
+-- `dates::masks::with_no_day` meets its contract. The loop's invariant: what is still to be copied completes the table.
 -- Assumes nothing.
 use mathlib.Core.Path.{_≡_, refl, sym, ap, _∙_}
 use mathlib.Core.List.{List, [], _∷_, _++_}
@@ -8,8 +8,8 @@ use native.Mathlib.Numerals.{add-one}
 use lib.ListN.{length, getD, set, drop, replicate, drop-of-length-le, length-set}
 use lib.Seq.{sets, sets-eq, drop-cons}
 use borrow.Author.Needs.{needs}
-use Rattle.calendar.proofs.masks.with_no_day.Statement.{statement}
-use Rattle.calendar.proofs.masks.with_no_day.Tie as tie
+use Rattle.dates.proofs.masks.with_no_day.Statement.{statement}
+use Rattle.dates.proofs.masks.with_no_day.Tie as tie
 
 abbrev Inv-loop : tie.InvT-loop
 Inv-loop table longer₀ place₀ longer place = (length longer ≡ 373) × (sets longer place (drop place table) ≡ table ++ (0 ∷ []))
@@ -48,10 +48,14 @@ loop-again : tie.Need-loop-again Inv-loop μ-loop
 loop-again c =
     let table = c .before .before .args .t1 in
     let l = c .before .loop in
-    (length-set (l .longer) (l .place) _ ∙ l .inv .0, copy-next table (l .longer) _ (l .place) (omega (arith, c .before .before .pre, c .loop-test .taken)) (l .inv .1))
+    let h : l .place < length table = omega (arith, c .before .before .pre, c .loop-test .taken) in
+    (length-set (l .longer) (l .place) _ ∙ l .inv .0, copy-next table (l .longer) _ (l .place) h (l .inv .1))
 
 returns : tie.Need-returns Inv-loop μ-loop
-returns c = copy-ends (c .before .before .args .t1) (c .before .loop .longer) _ (c .before .loop .place) (omega (arith, c .before .before .pre, c .loop-test .left)) (c .before .loop .inv .1)
+returns c =
+    let table = c .before .before .args .t1 in
+    let l = c .before .loop in
+    copy-ends table (l .longer) _ (l .place) (omega (arith, c .before .before .pre, c .loop-test .left)) (l .inv .1)
 
 pub with-no-day-spec : {M : Type 1} → statement M
 with-no-day-spec =
