@@ -16,8 +16,6 @@ use Rattle.dates.proofs.masks.month_day_from_end_table.Kinds as month-d
 use Rattle.dates.proofs.masks.month_day_from_end_table.Reads as month-day-from-end-table
 use Rattle.dates.proofs.masks.days_before_month.Kinds as days-before-month-kinds
 use Rattle.dates.proofs.masks.days_before_month.Reads as days-before-month
-use Rattle.dates.proofs.masks.month_length.Kinds as month-length-kinds
-use Rattle.dates.proofs.masks.month_length.Reads as month-length
 use Rattle.dates.proofs.utils.date_from_ordinal.Kinds as date-from-ordinal-kinds
 use Rattle.dates.proofs.utils.date_from_ordinal.Reads as date-from-ordinal
 use Rattle.dates.proofs.utils.day_of_date.Kinds as day-of-date-kinds
@@ -43,9 +41,6 @@ month-day-from-end-table-has-one κs a x y e f = one-answer
 
 pub days-before-month-has-one : Determines 0 days-before-month-kinds.ps days-before-month-kinds.r days-before-month.Post
 days-before-month-has-one κs a x y e f = one-answer
-
-pub month-length-has-one : Determines 0 month-length-kinds.ps month-length-kinds.r month-length.Post
-month-length-has-one κs a x y e f = one-answer
 
 pub date-from-ordinal-has-one : Determines 0 date-from-ordinal-kinds.ps date-from-ordinal-kinds.r date-from-ordinal.Post
 date-from-ordinal-has-one κs a x y e f = one-answer
@@ -74,9 +69,6 @@ month-day-from-end-table-asks-nothing κs a = nothing-asked
 
 pub days-before-month-asks-nothing : AsksNothing 0 days-before-month-kinds.ps days-before-month.requires
 days-before-month-asks-nothing κs a = nothing-asked
-
-pub month-length-asks-nothing : AsksNothing 0 month-length-kinds.ps month-length.requires
-month-length-asks-nothing κs a = nothing-asked
 
 pub date-from-ordinal-asks-nothing : AsksNothing 0 date-from-ordinal-kinds.ps date-from-ordinal.requires
 date-from-ordinal-asks-nothing κs a = nothing-asked

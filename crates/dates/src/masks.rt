@@ -12,7 +12,7 @@ ghost use mathlib.Core.Path.{_≡_};
 ghost use mathlib.Core.List.{[], _∷_, _++_};
 ghost use Prim.Native.Nat.{_-_, min};
 ghost use lib.ListN.{length};
-ghost use Rattle.calendar.specs.Calendar.{tableDay, fromEnd, monthTable, monthDayTable, fromEndTable, daysBeforeMonth, monthLength};
+ghost use Rattle.calendar.specs.Calendar.{tableDay, fromEnd, monthTable, monthDayTable, fromEndTable, daysBeforeMonth};
 
 // The month of the day at a place of a year's table, counted from 0; 0 past the table.
 pub fn month_at(long: bool, place: usize) -> u8
@@ -120,14 +120,4 @@ fn month_place(month: u8) -> usize
         return 0;
     }
     if month < 13 { (month - 1) as usize } else { 12 }
-}
-
-// A month's length; 0 where there is no such month.
-pub fn month_length(long: bool, month: u8) -> u8
-    ensures { λ r. ⌜ r ≡ monthLength long month ⌝ }
-{
-    if 12 < month {
-        return 0;
-    }
-    (days_before_month(long, month + 1) - days_before_month(long, month)) as u8
 }
