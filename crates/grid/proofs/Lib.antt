@@ -9,3 +9,4 @@ pub mod Filling
 pub mod Refusals
 pub mod Cursors
 pub mod Faults
+pub mod Positions

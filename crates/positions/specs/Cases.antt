@@ -1,4 +1,4 @@
--- Worked cases of the places, at the ends of the positions and of the candidates (proofs/Cases holds them).
+-- Worked cases of the places. proofs/Cases holds the short ones; those at the ends of the positions take longer to compute, and grid holds them.
 -- Assumes nothing.
 use Prim.Native.Nat.{ℕ}
 use mathlib.Core.Path.{_≡_}
@@ -24,7 +24,7 @@ pub record Case : Type 0 where
 abbrev case : List ℤ → ℕ → List ℕ → Case
 case bysetpos candidates places = record { bysetpos = bysetpos; candidates = candidates; places = places }
 
--- the last; one candidate chosen twice; none that far; no candidate; each end of the positions; the stretches' seams; a middle out of reach
+-- the last; one candidate chosen twice; none that far; no candidate
 abbrev pub cases : List Case
 cases =
     case (back 1 ∷ []) 31 (30 ∷ []) ∷
@@ -32,6 +32,11 @@ cases =
     case (back 1 ∷ forward 1 ∷ []) 1 (0 ∷ []) ∷
     case (back 6 ∷ forward 6 ∷ []) 5 [] ∷
     case (back 1 ∷ forward 1 ∷ []) 0 [] ∷
+    []
+
+-- each end of the positions; the stretches' seams; a middle out of reach
+abbrev pub farCases : List Case
+farCases =
     case (back 366 ∷ forward 366 ∷ []) 366 (0 ∷ 365 ∷ []) ∷
     case (back 366 ∷ back 1 ∷ forward 1 ∷ forward 366 ∷ []) 367 (0 ∷ 1 ∷ 365 ∷ 366 ∷ []) ∷
     case (back 366 ∷ back 365 ∷ forward 366 ∷ []) 731 (365 ∷ 366 ∷ []) ∷
@@ -42,5 +47,5 @@ cases =
 abbrev pub placesIn : Case → List ℕ
 placesIn c = keptPlaces (setOf 732 (entries positions (c .bysetpos))) (c .candidates)
 
-abbrev pub CasesHold : Type 0
-CasesHold = map placesIn cases ≡ map (λ (c : Case). c .places) cases
+abbrev pub CasesHold : List Case → Type 0
+CasesHold cs = map placesIn cs ≡ map (λ (c : Case). c .places) cs
