@@ -58,16 +58,16 @@ use Rattle.walks.specs.declared.rrule_iter.Bounds.{Bounds}
 use Rattle.walks.specs.declared.rrule_iter.Walked.{Walked}
 use Rattle.walks.specs.Walks.{Ready, boundOf, givenBy, nowOf, walkedBy, tabled}
 use Rattle.walks.proofs.ByBounds.{walk-by-bounds}
-use Rattle.opening.specs.declared.plan.Plan.{Plan}
-use Rattle.opening.specs.declared.plan.Shape.{Shape}
+use Rattle.plans.specs.declared.plan.Plan.{Plan}
+use Rattle.plans.specs.declared.plan.Shape.{Shape}
 use Rattle.opening.specs.declared.period.Period.{Period}
-use Rattle.opening.specs.Plans.{untilSecond, boundsOf, shapeFrom, shapeOf, planFrom, planOf}
+use Rattle.plans.specs.Plans.{untilSecond, boundsOf, shapeFrom, shapeOf, planFrom, planOf}
 use Rattle.opening.specs.Opening.{isInYear, dayIn, yearAt, secondKept, daysBy, periodBy, chosenBy}
-use Rattle.opening.specs.Opened.{spanOf, daySetOf, isPositioned, periodIn, daysOver, placesOver, Sound, Opened}
-use Rattle.opening.specs.Fitting.{isFit}
-use Rattle.opening.proofs.Opened.{opened}
-use Rattle.opening.proofs.Yielded.{Good, good}
-use Rattle.opening.proofs.Spans.{Covers, covers-is, info-year, span-from-low, span-from-high, own-year}
+use Rattle.opened.specs.Opened.{spanOf, daySetOf, isPositioned, periodIn, daysOver, placesOver, Sound, Opened}
+use Rattle.fitting.specs.Fitting.{isFit}
+use Rattle.opened.proofs.Opened.{opened}
+use Rattle.opened.proofs.Yielded.{Good, good}
+use Rattle.opened.proofs.Spans.{Covers, covers-is, info-year, span-from-low, span-from-high, own-year}
 use Rattle.settling.specs.declared.rrule_iter.Settled.{Settled}
 use Rattle.settling.specs.Settling.{answerOf, heldOf, movedTo, settled}
 use Rattle.listing.proofs.Entering.{cursor-refused, runs-on}

@@ -1,6 +1,7 @@
 // The run: a rule's due instants, from a cursor on, into a lent buffer, with a budget of moves.
 use crate::walking::walk_period;
 use basics::faults::refused;
+use fitting::cursors::is_fit;
 use machine::Answer;
 use machine::Cause;
 use machine::Cursor;
@@ -8,17 +9,16 @@ use machine::Fault;
 use machine::State;
 use machine::Stop;
 use moves::counter_date::increment;
-use opening::cursors::is_fit;
 use opening::period::Period;
 use opening::period::covers;
 use opening::period::open_period;
 use opening::period::year_at;
-use opening::plan::Plan;
-use opening::plan::Shape;
-use opening::plan::plan_of;
 use periods::counter_date::Counter;
 use periods::counter_date::Reached;
 use periods::counter_date::counter_at;
+use plans::plan::Plan;
+use plans::plan::Shape;
+use plans::plan::plan_of;
 use records::is_record;
 use rule::rrule::Rule;
 use settling::rrule_iter::Settled;
@@ -40,8 +40,8 @@ ghost use Rattle.rule.specs.Periods.{inRange};
 ghost use Rattle.rule.specs.Records.{yielded};
 ghost use Rattle.rule.specs.Run.{runOf};
 ghost use Rattle.periods.specs.Counters.{counterAt};
-ghost use Rattle.opening.specs.Fitting.{isFit};
-ghost use Rattle.opening.specs.Plans.{planOf};
+ghost use Rattle.plans.specs.Plans.{planOf};
+ghost use Rattle.fitting.specs.Fitting.{isFit};
 
 // Whether a cursor was tried before, or fits the period that is opened.
 fn is_taken(

@@ -15,7 +15,7 @@ ghost use Rattle.machine.specs.Compute.{walk};
 ghost use Rattle.walks.specs.Walks.{Framed, Ready, givenBy, nowOf, walkedBy, tabled, daysWalk};
 ghost use Rattle.walks.specs.Passing.{Timely};
 ghost use Rattle.opening.specs.Opening.{secondKept};
-ghost use Rattle.opening.specs.Opened.{Sound};
+ghost use Rattle.opened.specs.Opened.{Sound};
 
 // The walk over all candidates, from the place on: over days and times, whole days before the start at one go.
 fn walk_all(

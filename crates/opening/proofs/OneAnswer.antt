@@ -6,28 +6,18 @@ use mathlib.Core.Path.{_≡_, ap, _∙_}
 use mathlib.Core.List.{List}
 use Rattle.calendar.proofs.AsksNothing.{AsksNothing, nothing-asked}
 use Rattle.calendar.proofs.Determines.{Determines, DeterminesBuffer, one-answer}
-use Rattle.opening.proofs.cursors.is_fit.Kinds as is-fit-kinds
-use Rattle.opening.proofs.cursors.is_fit.Reads as is-fit
 use Rattle.opening.proofs.period.covers.Kinds as covers-kinds
 use Rattle.opening.proofs.period.covers.Reads as covers
 use Rattle.opening.proofs.period.open_period.Kinds as open-period-kinds
 use Rattle.opening.proofs.period.open_period.Reads as open-period
 use Rattle.opening.proofs.period.year_at.Kinds as year-at-kinds
 use Rattle.opening.proofs.period.year_at.Reads as year-at
-use Rattle.opening.proofs.plan.plan_of.Kinds as plan-of-kinds
-use Rattle.opening.proofs.plan.plan_of.Reads as plan-of
-
-pub plan-of-has-one : Determines 0 plan-of-kinds.ps plan-of-kinds.r plan-of.Post
-plan-of-has-one κs a x y e f = one-answer
 
 pub covers-has-one : Determines 0 covers-kinds.ps covers-kinds.r covers.Post
 covers-has-one κs a x y e f = one-answer
 
 pub year-at-has-one : Determines 0 year-at-kinds.ps year-at-kinds.r year-at.Post
 year-at-has-one κs a x y e f = one-answer
-
-pub is-fit-has-one : Determines 3 is-fit-kinds.ps is-fit-kinds.r is-fit.Post
-is-fit-has-one κs a x y e f = one-answer
 
 -- the slots for days and for places are the last two parameters
 abbrev Slots : Type 0
@@ -41,17 +31,11 @@ pub open-period-has-one : DeterminesBuffer 5 open-period-kinds.ps open-period-ki
 open-period-has-one κs a x y e f p q = (one-answer (p .0) (q .0), both-alike (one-answer (p .1 .0) (q .1 .0)) (one-answer (p .1 .1) (q .1 .1)))
 
 -- and none asks anything of its callers
-pub plan-of-asks-nothing : AsksNothing 0 plan-of-kinds.ps plan-of.requires
-plan-of-asks-nothing κs a = nothing-asked
-
 pub covers-asks-nothing : AsksNothing 0 covers-kinds.ps covers.requires
 covers-asks-nothing κs a = nothing-asked
 
 pub year-at-asks-nothing : AsksNothing 0 year-at-kinds.ps year-at.requires
 year-at-asks-nothing κs a = nothing-asked
-
-pub is-fit-asks-nothing : AsksNothing 3 is-fit-kinds.ps is-fit.requires
-is-fit-asks-nothing κs a = nothing-asked
 
 pub open-period-asks-nothing : AsksNothing 5 open-period-kinds.ps open-period.requires
 open-period-asks-nothing κs a = nothing-asked

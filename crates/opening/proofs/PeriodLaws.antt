@@ -1,23 +1,31 @@
--- The period by its cases, and how many days it can have.
+-- The period by its cases, how many days it can have, and two tests with one answer.
 -- Assumes nothing.
 use Prim.Native.Nat.{ℕ, _-_, _≤_, _<_, min}
 use mathlib.Core.Path.{_≡_, refl, sym, ap, _∙_}
+use mathlib.Core.Logic.{⊎-elim}
 use mathlib.Core.Bool.{Bool, true, false, _&&_}
 use mathlib.Core.List.{List}
 use native.Mathlib.Omega.{arith}
-use lib.Dec.{leb, ltb}
+use lib.Dec.{ltb}
 use lib.ListN.{length}
 use borrow.Author.Tests.{le-leb, lt-leb, lt-ltb, le-ltb}
-use Rattle.calendar.specs.Calendar.{if_then_else_}
+use Rattle.rule.proofs.Order.{below-or}
 use Rattle.years.specs.declared.lists.Asked.{Asked}
 use Rattle.years.specs.declared.iterinfo.IterInfo.{IterInfo}
 use Rattle.clocks.proofs.Blocks.{passing-short}
 use Rattle.days.specs.Filters.{DayLists, placePasses}
 use Rattle.days.specs.DaySets.{daySet}
 use Rattle.walks.specs.declared.rrule_iter.Frame.{Frame}
-use Rattle.opening.specs.declared.plan.Shape.{Shape}
-use Rattle.opening.specs.declared.period.Period.{Period}
+use Rattle.plans.specs.declared.plan.Shape.{Shape}
 use Rattle.opening.specs.Opening.{frameOf, keptCount, chosenOver, noPeriod, isOpen, periodBy, chosenBy}
+
+-- two tests with one answer
+pub same-test : (a b c d : ℕ) → (a < b → c < d) → (b ≤ a → d ≤ c) → ltb a b ≡ ltb c d
+same-test a b c d f g =
+    ⊎-elim
+    (λ (l : a < b). lt-ltb a b l ∙ sym (lt-ltb c d (f l)))
+    (λ (l : b ≤ a). le-ltb a b l ∙ sym (le-ltb c d (g l)))
+    (below-or a b)
 
 -- no stretch has more than 373 passing days
 pub few-days : (a : Asked) (info : IterInfo) (l : DayLists) (from to : ℕ) → length (daySet a info l from to) ≤ 373

@@ -1,4 +1,1 @@
-pub mod Fitting
-pub mod Opened
 pub mod Opening
-pub mod Plans

@@ -18,7 +18,7 @@ use Rattle.times.specs.TimeSets.{openOf, timesLen}
 use Rattle.positions.specs.Places.{keptPlaces, over}
 use Rattle.walks.specs.declared.rrule_iter.Frame.{Frame}
 use Rattle.walks.specs.Walks.{secondAt, secondChosen}
-use Rattle.opening.specs.declared.plan.Shape.{Shape}
+use Rattle.plans.specs.declared.plan.Shape.{Shape}
 use Rattle.opening.specs.declared.period.Period.{Period}
 
 -- a day lies in a year

@@ -1,4 +1,2 @@
-// A period opened: what a call needs of its rule, the period's candidates by number, and whether a cursor fits there.
-pub mod cursors;
+// A period opened: its candidates by number, and how many are kept.
 pub mod period;
-pub mod plan;

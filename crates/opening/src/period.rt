@@ -1,25 +1,25 @@
 // A period opened: its candidates by number, and how many are kept.
-use crate::plan::Shape;
 use calendar::utils::year_of_day;
 use days::iterinfo::days_by_month;
 use days::iterinfo::get_dayset;
 use days::iterinfo::is_month_alone;
 use days::iterinfo::is_plain;
 use days::iterinfo::plain_days;
+use plans::plan::Shape;
 use positions::pos_list::build_pos_list;
 use rule::rrule::Frequency;
 use stretches::counter_date::Days;
 use times::iterinfo::Counts;
 use times::iterinfo::open_times;
 use times::iterinfo::times_len;
+use units::unit::unit_of;
 use walks::rrule_iter::Frame;
 use weeks::yearinfo::Year;
 use years::lists::Asked;
 ghost use mathlib.Core.Path.{_≡_};
-ghost use Prim.Native.Nat.{_-_, _/_, _≤_};
+ghost use Prim.Native.Nat.{_-_, _≤_};
 ghost use lib.ListN.{length};
 ghost use lib.Seq.{sets};
-ghost use Rattle.rule.specs.Moves.{ticks};
 ghost use Rattle.years.specs.Info.{infoBy};
 ghost use Rattle.days.specs.Filters.{dayLists};
 ghost use Rattle.days.specs.DaySets.{daySet};
@@ -105,21 +105,6 @@ fn period_days<'a, 'b>(
         nths,
         days,
     )
-}
-
-// The seconds of a period below DAILY; of a day otherwise.
-pub(crate) fn unit_of(freq: Frequency) -> u64
-    ensures { λ r. ⌜ r ≡ 86400 / ticks freq ⌝ }
-{
-    match freq {
-        Frequency::Yearly => 86400,
-        Frequency::Monthly => 86400,
-        Frequency::Weekly => 86400,
-        Frequency::Daily => 86400,
-        Frequency::Hourly => 3600,
-        Frequency::Minutely => 60,
-        Frequency::Secondly => 1,
-    }
 }
 
 // The second of its day at which a period with this tick begins; 0 where a day has no such tick.

@@ -12,8 +12,8 @@ use Rattle.settling.specs.Settling.{answerOf}
 use Rattle.rule.specs.Records.{yielded}
 use Rattle.periods.specs.Counters.{reachedAt}
 use Rattle.periods.proofs.Reach.{reached-by-fields, reached-counter, reached-range, never-no-tick}
-use Rattle.opening.proofs.Plans.{plan-is}
-use Rattle.opening.proofs.Yielded.{good}
+use Rattle.opened.proofs.Plans.{plan-is}
+use Rattle.opened.proofs.Yielded.{good}
 use Rattle.listing.proofs.Entering.{record-refused, ended-returns, cursor-refused, no-interval, out-of-range}
 use Rattle.listing.proofs.rrule_iter.run.Statement.{statement}
 use Rattle.listing.proofs.rrule_iter.run.Tie as tie

@@ -11,9 +11,9 @@ use Rattle.rule.specs.declared.rrule.Rule.{Rule}
 use Rattle.stretches.specs.declared.counter_date.Days.{Days}
 use Rattle.stretches.specs.Stretches.{daysIn}
 use Rattle.years.specs.declared.iterinfo.IterInfo.{IterInfo}
-use Rattle.opening.specs.declared.plan.Plan.{Plan}
+use Rattle.plans.specs.declared.plan.Plan.{Plan}
 use Rattle.opening.specs.Opening.{isInYear}
-use Rattle.opening.specs.Opened.{spanOf}
+use Rattle.opened.specs.Opened.{spanOf}
 use Rattle.settling.specs.declared.rrule_iter.Settled.{Settled}
 use Rattle.settling.specs.Settling.{settled}
 use Rattle.listing.proofs.Turns.{Going, At, Turn, Opens, Walks, fits, span-is, info-made, info-covers, sound, ready, refused-right, goes}

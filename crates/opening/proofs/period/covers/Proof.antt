@@ -9,7 +9,7 @@ use borrow.Author.Needs.{needs}
 use borrow.Author.Tests.{lt-leb, le-leb}
 use Rattle.calendar.specs.Calendar.{daysOf}
 use Rattle.opening.specs.Opening.{isInYear}
-use Rattle.opening.proofs.Spans.{same-test}
+use Rattle.opening.proofs.PeriodLaws.{same-test}
 use Rattle.opening.proofs.period.covers.Statement.{statement}
 use Rattle.opening.proofs.period.covers.Tie as tie
 

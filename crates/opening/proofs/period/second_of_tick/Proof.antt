@@ -8,7 +8,7 @@ use borrow.Author.Needs.{needs}
 use borrow.Author.Tests.{lt-ltb, le-ltb}
 use Rattle.rule.specs.Moves.{ticks}
 use Rattle.opening.specs.Opening.{tickSecond}
-use Rattle.opening.proofs.Spans.{few-ticks, unit-small, past-ticks, within-ticks}
+use Rattle.units.proofs.Units.{few-ticks, unit-small, past-ticks, within-ticks}
 use Rattle.opening.proofs.period.second_of_tick.Statement.{statement}
 use Rattle.opening.proofs.period.second_of_tick.Tie as tie
 

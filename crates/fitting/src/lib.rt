@@ -1,0 +1,2 @@
+// Whether a cursor fits the period that is opened.
+pub mod cursors;

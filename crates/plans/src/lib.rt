@@ -1,0 +1,2 @@
+// What a call needs of its rule, made once.
+pub mod plan;

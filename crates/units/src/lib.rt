@@ -1,0 +1,2 @@
+// The seconds of a period's unit.
+pub mod unit;
