@@ -4,7 +4,6 @@ use Prim.Native.Nat.{ℕ, zero, suc, _+_, _-_, _*_, _/_, _%_, min, _≤_, _<_}
 use mathlib.Core.Path.{_≡_, refl, sym, ap, subst, _∙_}
 use mathlib.Core.Logic.{⊎-elim}
 use mathlib.Core.Bool.{Bool, true, false, _&&_}
-use mathlib.Core.List.{List}
 use native.Mathlib.Nat.{mod-lt}
 use native.Mathlib.Omega.{arith}
 use lib.Dec.{leb}
@@ -28,7 +27,6 @@ use Rattle.periods.proofs.Counted.{year-limit, month-limit, in-range-is, place-
 use Rattle.stretches.proofs.Spanned.{days-below, days-of-period}
 use Rattle.weeks.specs.declared.yearinfo.Year.{Year}
 use Rattle.weeks.specs.Weeks.{noYear, yearInfo}
-use Rattle.years.specs.declared.lists.Asked.{Asked}
 use Rattle.years.specs.Info.{infoOf, ruleInfo}
 use Rattle.nths.proofs.Rows.{days-high}
 use Rattle.fitting.specs.Fitting.{periodEnd}
@@ -58,11 +56,6 @@ yearOwn y = record { number = y; long = leap y; nextlong = leap (y + 1); first =
 pub info-year : (r : Rule) (y : ℕ) → y ≤ 9999 → ruleInfo r y .year ≡ yearOwn y
 unfolding ruleInfo infoOf yearInfo
 info-year r y h = rw (le-leb y 9999 h)
-
-pub info-first : (a : Asked) (inyear : Bool) (wkst : ℕ) (weeknos days : List Bool) (y : ℕ) → y ≤ 9999
-    → infoOf a inyear wkst weeknos days y .year .first ≡ newYear y
-unfolding infoOf yearInfo
-info-first a inyear wkst weeknos days y h = rw (le-leb y 9999 h)
 
 -- a year's information is of that year, or of none
 within : (y : Year) (d : ℕ) → isInYear y d ≡ true → (y .first ≤ d) × (d < y .first + daysOf (y .long))
@@ -99,12 +92,6 @@ unfolding isInYear
 year-is-covered r y d h i =
     let f : newYear (y + 1) ≡ newYear y + yearLength y = years-follow y (i .low) in
     rw (info-year r y h, le-leb (newYear y) d (i .from), lt-ltb d (newYear y + yearLength y) (omega arith))
-
--- the same as document 01's words have it
-pub in-year : (r : Rule) (y d : ℕ) → 3 ≤ y → y ≤ 9999 → isInYear (ruleInfo r y .year) d ≡ true → InYear y d
-in-year r y d l h e =
-    let w = within (yearOwn y) d (ap (λ (x : Year). isInYear x d) (sym (info-year r y h)) ∙ e) in
-    record { low = omega arith; from = w .0; to = omega (arith, years-follow y (omega arith)) }
 
 -- the year that holds a day of the range begins in the range
 pub year-begins : (y d : ℕ) → 719162 ≤ d → y ≤ 9999 → InYear y d → (719162 ≤ newYear y) × (newYear y ≤ 3652059)
@@ -272,16 +259,6 @@ some-ticks Frequency.Hourly = omega arith
 some-ticks Frequency.Minutely = omega arith
 some-ticks Frequency.Secondly = omega arith
 
--- a period ends with its day at the latest
-pub unit-fits : (f : Frequency) (t : ℕ) → t < ticks f → (t + 1) * (86400 / ticks f) ≤ 86400
-unit-fits Frequency.Yearly t h = omega arith
-unit-fits Frequency.Monthly t h = omega arith
-unit-fits Frequency.Weekly t h = omega arith
-unit-fits Frequency.Daily t h = omega arith
-unit-fits Frequency.Hourly t h = omega arith
-unit-fits Frequency.Minutely t h = omega arith
-unit-fits Frequency.Secondly t h = omega arith
-
 -- ---- where a period ends: with its last day, or with its tick
 
 whole-days : (b n : ℕ) → 1 ≤ (b * 86400 + 86399) / 86400 → b * 86400 ≡ ((b * 86400 + 86399) / 86400 - 1) * 86400 + (n % 1 + 1) * 86400
@@ -373,12 +350,6 @@ module _ (r : Rule) (fit : Good r) (k : ℕ) (inside : inRange r k ≡ true) whe
   -- The year of the period's first day covers it, so that the period can be opened in that year.
   pub own-year : isInYear (ruleInfo r (yearOf (spanOf r k .from)) .year) (spanOf r k .from) ≡ true
   own-year = year-is-covered r (yearOf (spanOf r k .from)) (spanOf r k .from) (year-high (spanOf r k .from) span-from-high) (year-of-is (spanOf r k .from))
-
-  pub own-year-high : yearOf (spanOf r k .from) ≤ 9999
-  own-year-high = year-high (spanOf r k .from) span-from-high
-
-  pub own-year-low : 3 ≤ yearOf (spanOf r k .from)
-  own-year-low = omega (arith, year-low (spanOf r k .from) span-from-low)
 
   -- The period ends as its last day and its tick say.
   pub ends-are : period r k .ends ≡ periodEnd (r .freq) (spanOf r k .to) (counterAt r k .tick)
