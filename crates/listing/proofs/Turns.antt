@@ -62,7 +62,8 @@ use Rattle.plans.specs.declared.plan.Plan.{Plan}
 use Rattle.plans.specs.declared.plan.Shape.{Shape}
 use Rattle.opening.specs.declared.period.Period.{Period}
 use Rattle.plans.specs.Plans.{untilSecond, boundsOf, shapeFrom, shapeOf, planFrom, planOf}
-use Rattle.opening.specs.Opening.{isInYear, dayIn, yearAt, secondKept, daysBy, periodBy, chosenBy}
+use Rattle.units.specs.Years.{isInYear, dayIn, yearAt}
+use Rattle.opening.specs.Opening.{secondKept, daysBy, periodBy, chosenBy}
 use Rattle.opened.specs.Opened.{spanOf, daySetOf, isPositioned, periodIn, daysOver, placesOver, Sound, Opened}
 use Rattle.fitting.specs.Fitting.{isFit}
 use Rattle.opened.proofs.Opened.{opened}

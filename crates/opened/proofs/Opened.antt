@@ -38,7 +38,8 @@ use Rattle.positions.proofs.PlaceLaws.{places-fit, places-below}
 use Rattle.walks.specs.declared.rrule_iter.Frame.{Frame}
 use Rattle.walks.specs.Walks.{secondAt, secondChosen, tabled}
 use Rattle.opening.specs.declared.period.Period.{Period}
-use Rattle.opening.specs.Opening.{isInYear, tickBegins, tickSecond, frameOf, keptCount, chosenOver, secondKept, noPeriod, isOpen, periodBy, chosenBy}
+use Rattle.units.specs.Years.{isInYear}
+use Rattle.opening.specs.Opening.{tickBegins, tickSecond, frameOf, keptCount, chosenOver, secondKept, noPeriod, isOpen, periodBy, chosenBy}
 use Rattle.opened.specs.Opened.{spanOf, daySetOf, isPositioned, periodIn, daysOver, placesOver, Sound, Opened, OpenedIs}
 use Rattle.plans.specs.Plans.{shapeFrom, shapeOf}
 use Rattle.opening.proofs.PeriodLaws.{few-days}

@@ -30,7 +30,8 @@ use Rattle.weeks.specs.Weeks.{noYear, yearInfo}
 use Rattle.years.specs.Info.{infoOf, ruleInfo}
 use Rattle.nths.proofs.Rows.{days-high}
 use Rattle.fitting.specs.Fitting.{periodEnd}
-use Rattle.opening.specs.Opening.{isInYear, tickBegins}
+use Rattle.units.specs.Years.{isInYear}
+use Rattle.opening.specs.Opening.{tickBegins}
 use Rattle.opened.specs.Opened.{spanOf}
 use Rattle.opened.proofs.Yielded.{Good}
 

@@ -30,7 +30,8 @@ use Rattle.walks.specs.Passing.{Timely}
 use Rattle.walks.specs.Walks.{Framed, tabled}
 use Rattle.opening.specs.declared.period.Period.{Period}
 use Rattle.fitting.specs.Fitting.{isFit}
-use Rattle.opening.specs.Opening.{isInYear, secondKept, periodBy, chosenBy}
+use Rattle.units.specs.Years.{isInYear}
+use Rattle.opening.specs.Opening.{secondKept, periodBy, chosenBy}
 use Rattle.plans.specs.Plans.{boundsOf, shapeOf}
 
 -- the days of period k

@@ -1,23 +1,13 @@
--- One answer: of each public function, two answers that its promise allows are one, and so are the slots that it leaves. `Post` is the promise as
--- the source states it.
+-- One answer: two answers that the promise of `open_period` allows are one, and so are the slots that it leaves. `Post` is the promise as the
+-- source states it.
 -- Assumes nothing.
 use Prim.Native.Nat.{ℕ}
 use mathlib.Core.Path.{_≡_, ap, _∙_}
 use mathlib.Core.List.{List}
 use Rattle.calendar.proofs.AsksNothing.{AsksNothing, nothing-asked}
-use Rattle.calendar.proofs.Determines.{Determines, DeterminesBuffer, one-answer}
-use Rattle.opening.proofs.period.covers.Kinds as covers-kinds
-use Rattle.opening.proofs.period.covers.Reads as covers
+use Rattle.calendar.proofs.Determines.{DeterminesBuffer, one-answer}
 use Rattle.opening.proofs.period.open_period.Kinds as open-period-kinds
 use Rattle.opening.proofs.period.open_period.Reads as open-period
-use Rattle.opening.proofs.period.year_at.Kinds as year-at-kinds
-use Rattle.opening.proofs.period.year_at.Reads as year-at
-
-pub covers-has-one : Determines 0 covers-kinds.ps covers-kinds.r covers.Post
-covers-has-one κs a x y e f = one-answer
-
-pub year-at-has-one : Determines 0 year-at-kinds.ps year-at-kinds.r year-at.Post
-year-at-has-one κs a x y e f = one-answer
 
 -- the slots for days and for places are the last two parameters
 abbrev Slots : Type 0
@@ -30,12 +20,6 @@ pub open-period-has-one : DeterminesBuffer 5 open-period-kinds.ps open-period-ki
     (λ κs e. (e .1 .1 .1 .1 .1 .1 .1 .1 .1 .1 .1 .1 .1 .1 .1 .0 .now, e .1 .1 .1 .1 .1 .1 .1 .1 .1 .1 .1 .1 .1 .1 .1 .1 .0 .now)) open-period.Post
 open-period-has-one κs a x y e f p q = (one-answer (p .0) (q .0), both-alike (one-answer (p .1 .0) (q .1 .0)) (one-answer (p .1 .1) (q .1 .1)))
 
--- and none asks anything of its callers
-pub covers-asks-nothing : AsksNothing 0 covers-kinds.ps covers.requires
-covers-asks-nothing κs a = nothing-asked
-
-pub year-at-asks-nothing : AsksNothing 0 year-at-kinds.ps year-at.requires
-year-at-asks-nothing κs a = nothing-asked
-
+-- and it asks nothing of its callers
 pub open-period-asks-nothing : AsksNothing 5 open-period-kinds.ps open-period.requires
 open-period-asks-nothing κs a = nothing-asked

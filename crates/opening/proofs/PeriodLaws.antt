@@ -1,15 +1,13 @@
--- The period by its cases, how many days it can have, and two tests with one answer.
+-- The period by its cases, and how many days it can have.
 -- Assumes nothing.
 use Prim.Native.Nat.{ℕ, _-_, _≤_, _<_, min}
-use mathlib.Core.Path.{_≡_, refl, sym, ap, _∙_}
-use mathlib.Core.Logic.{⊎-elim}
+use mathlib.Core.Path.{_≡_, refl, ap, _∙_}
 use mathlib.Core.Bool.{Bool, true, false, _&&_}
 use mathlib.Core.List.{List}
 use native.Mathlib.Omega.{arith}
 use lib.Dec.{ltb}
 use lib.ListN.{length}
-use borrow.Author.Tests.{le-leb, lt-leb, lt-ltb, le-ltb}
-use Rattle.rule.proofs.Order.{below-or}
+use borrow.Author.Tests.{le-leb, lt-leb, lt-ltb}
 use Rattle.years.specs.declared.lists.Asked.{Asked}
 use Rattle.years.specs.declared.iterinfo.IterInfo.{IterInfo}
 use Rattle.clocks.proofs.Blocks.{passing-short}
@@ -18,14 +16,6 @@ use Rattle.days.specs.DaySets.{daySet}
 use Rattle.walks.specs.declared.rrule_iter.Frame.{Frame}
 use Rattle.plans.specs.declared.plan.Shape.{Shape}
 use Rattle.opening.specs.Opening.{frameOf, keptCount, chosenOver, noPeriod, isOpen, periodBy, chosenBy}
-
--- two tests with one answer
-pub same-test : (a b c d : ℕ) → (a < b → c < d) → (b ≤ a → d ≤ c) → ltb a b ≡ ltb c d
-same-test a b c d f g =
-    ⊎-elim
-    (λ (l : a < b). lt-ltb a b l ∙ sym (lt-ltb c d (f l)))
-    (λ (l : b ≤ a). le-ltb a b l ∙ sym (le-ltb c d (g l)))
-    (below-or a b)
 
 -- no stretch has more than 373 passing days
 pub few-days : (a : Asked) (info : IterInfo) (l : DayLists) (from to : ℕ) → length (daySet a info l from to) ≤ 373

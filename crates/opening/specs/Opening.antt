@@ -1,14 +1,13 @@
 -- A period opened: its candidates by number, and how many are kept.
 -- Assumes nothing.
-use Prim.Native.Nat.{ℕ, _+_, _-_, _*_, _/_}
+use Prim.Native.Nat.{ℕ, _-_, _*_, _/_}
 use mathlib.Core.Bool.{Bool, true, _&&_}
 use mathlib.Core.List.{List}
 use lib.ListN.{length, getD}
 use lib.Dec.{eqb, leb, ltb}
-use Rattle.calendar.specs.Calendar.{if_then_else_, daysOf, yearOf}
+use Rattle.calendar.specs.Calendar.{if_then_else_}
 use Rattle.rule.specs.declared.rrule.Frequency.{Frequency}
 use Rattle.rule.specs.Moves.{ticks}
-use Rattle.weeks.specs.declared.yearinfo.Year.{Year}
 use Rattle.years.specs.declared.iterinfo.IterInfo.{IterInfo}
 use Rattle.days.specs.Filters.{DayLists}
 use Rattle.days.specs.DaySets.{daySet}
@@ -20,18 +19,6 @@ use Rattle.walks.specs.declared.rrule_iter.Frame.{Frame}
 use Rattle.walks.specs.Walks.{secondAt, secondChosen}
 use Rattle.plans.specs.declared.plan.Shape.{Shape}
 use Rattle.opening.specs.declared.period.Period.{Period}
-
--- a day lies in a year
-unfoldable pub isInYear : Year → ℕ → Bool
-isInYear y d = leb (y .first) d && ltb d (y .first + daysOf (y .long))
-
--- the year of a day; one far out of range counts as day 0
-abbrev pub dayIn : ℕ → ℕ
-dayIn d = if leb 4194304 d then 0 else d
-
-unfoldable pub yearAt : ℕ → ℕ
-unfolding yearOf
-yearAt d = yearOf (dayIn d)
 
 -- the second of its day at which a period with this tick begins; of any number, 0 where a day has no such tick
 abbrev pub tickBegins : Frequency → ℕ → ℕ

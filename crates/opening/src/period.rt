@@ -1,5 +1,4 @@
 // A period opened: its candidates by number, and how many are kept.
-use calendar::utils::year_of_day;
 use days::iterinfo::days_by_month;
 use days::iterinfo::get_dayset;
 use days::iterinfo::is_month_alone;
@@ -23,40 +22,12 @@ ghost use lib.Seq.{sets};
 ghost use Rattle.years.specs.Info.{infoBy};
 ghost use Rattle.days.specs.Filters.{dayLists};
 ghost use Rattle.days.specs.DaySets.{daySet};
-ghost use Rattle.opening.specs.Opening.{isInYear, dayIn, yearAt, tickSecond, frameOf, keptCount, chosenOver, daysBy, noPeriod, periodBy, chosenBy};
+ghost use Rattle.opening.specs.Opening.{tickSecond, frameOf, keptCount, chosenOver, daysBy, noPeriod, periodBy, chosenBy};
 
 // A period's frame, and how many of its candidates are kept.
 pub struct Period {
     pub frame: Frame,
     pub kept: u32,
-}
-
-// Whether a day lies in a year.
-pub fn covers(year: Year, day: u64) -> bool
-    ensures { λ r. ⌜ r ≡ isInYear year day ⌝ }
-{
-    if day < year.first {
-        return false;
-    }
-    let place = day - year.first;
-    if year.long { place < 366 } else { place < 365 }
-}
-
-// A day as a u32; 0 where it is far out of range.
-fn day_in(day: u64) -> u32
-    ensures { λ r. ⌜ r ≡ dayIn day ⌝ }
-{
-    if 4194304 <= day {
-        return 0;
-    }
-    day as u32
-}
-
-// The year of a day.
-pub fn year_at(day: u64) -> u32
-    ensures { λ r. ⌜ r ≡ yearAt day ⌝ }
-{
-    year_of_day(day_in(day))
 }
 
 // The passing days of a period. Where no list is asked, or BYMONTH alone, get_dayset, which is long, isn't called for each period.

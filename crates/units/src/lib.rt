@@ -1,2 +1,3 @@
-// The seconds of a period's unit.
+// The seconds of a period's unit, and the year that a day lies in.
 pub mod unit;
+pub mod year;

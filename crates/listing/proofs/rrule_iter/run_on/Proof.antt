@@ -12,7 +12,7 @@ use Rattle.stretches.specs.declared.counter_date.Days.{Days}
 use Rattle.stretches.specs.Stretches.{daysIn}
 use Rattle.years.specs.declared.iterinfo.IterInfo.{IterInfo}
 use Rattle.plans.specs.declared.plan.Plan.{Plan}
-use Rattle.opening.specs.Opening.{isInYear}
+use Rattle.units.specs.Years.{isInYear}
 use Rattle.opened.specs.Opened.{spanOf}
 use Rattle.settling.specs.declared.rrule_iter.Settled.{Settled}
 use Rattle.settling.specs.Settling.{settled}

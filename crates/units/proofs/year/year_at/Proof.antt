@@ -1,11 +1,11 @@
--- `opening::period::year_at` meets its contract.
+-- `units::year::year_at` meets its contract.
 -- Assumes nothing.
 use mathlib.Core.Path.{ap, _∙_}
 use borrow.Author.Needs.{needs}
 use Rattle.calendar.specs.Calendar.{yearOf}
-use Rattle.opening.specs.Opening.{yearAt}
-use Rattle.opening.proofs.period.year_at.Statement.{statement}
-use Rattle.opening.proofs.period.year_at.Tie as tie
+use Rattle.units.specs.Years.{yearAt}
+use Rattle.units.proofs.year.year_at.Statement.{statement}
+use Rattle.units.proofs.year.year_at.Tie as tie
 
 day-in-requires : tie.Need-day-in-requires
 day-in-requires c κs = search needs

@@ -1,9 +1,9 @@
--- `opening::period::day_in` meets its contract.
+-- `units::year::day_in` meets its contract.
 -- Assumes nothing.
 use borrow.Author.Needs.{needs}
 use borrow.Author.Tests.{le-leb, lt-leb}
-use Rattle.opening.proofs.period.day_in.Statement.{statement}
-use Rattle.opening.proofs.period.day_in.Tie as tie
+use Rattle.units.proofs.year.day_in.Statement.{statement}
+use Rattle.units.proofs.year.day_in.Tie as tie
 
 returns : tie.Need-returns
 returns c = rw (le-leb 4194304 (c .before .args .day) (search needs))

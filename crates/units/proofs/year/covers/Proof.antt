@@ -1,17 +1,26 @@
--- `opening::period::covers` meets its contract.
+-- `units::year::covers` meets its contract.
 -- Assumes nothing.
 use Prim.Native.Nat.{ℕ, _+_, _-_, _≤_, _<_}
-use mathlib.Core.Path.{_≡_, _∙_}
+use mathlib.Core.Path.{_≡_, sym, _∙_}
+use mathlib.Core.Logic.{⊎-elim}
 use mathlib.Core.Bool.{Bool, true, false, _&&_}
 use native.Mathlib.Omega.{arith}
 use lib.Dec.{leb, ltb}
 use borrow.Author.Needs.{needs}
-use borrow.Author.Tests.{lt-leb, le-leb}
+use borrow.Author.Tests.{lt-leb, le-leb, lt-ltb, le-ltb}
 use Rattle.calendar.specs.Calendar.{daysOf}
-use Rattle.opening.specs.Opening.{isInYear}
-use Rattle.opening.proofs.PeriodLaws.{same-test}
-use Rattle.opening.proofs.period.covers.Statement.{statement}
-use Rattle.opening.proofs.period.covers.Tie as tie
+use Rattle.units.specs.Years.{isInYear}
+use Rattle.rule.proofs.Order.{below-or}
+use Rattle.units.proofs.year.covers.Statement.{statement}
+use Rattle.units.proofs.year.covers.Tie as tie
+
+-- two tests with one answer
+same-test : (a b c d : ℕ) → (a < b → c < d) → (b ≤ a → d ≤ c) → ltb a b ≡ ltb c d
+same-test a b c d f g =
+    ⊎-elim
+    (λ (l : a < b). lt-ltb a b l ∙ sym (lt-ltb c d (f l)))
+    (λ (l : b ≤ a). le-ltb a b l ∙ sym (le-ltb c d (g l)))
+    (below-or a b)
 
 -- a day's place decides, where the year has begun
 by-place : (first d : ℕ) (long : Bool) → first ≤ d → ltb (d - first) (daysOf long) ≡ leb first d && ltb d (first + daysOf long)
