@@ -2,15 +2,14 @@
 -- Assumes nothing.
 use Prim.Native.Nat.{ℕ, zero, suc, _+_, _-_, _≤_, _<_}
 use mathlib.Core.Path.{_≡_, refl, sym, ap, _∙_}
-use mathlib.Core.Bool.{Bool, true, false, not, _||_}
+use mathlib.Core.Bool.{Bool, true, false, _||_}
 use mathlib.Core.List.{List}
-use lib.ListN.{length, getD}
+use lib.ListN.{getD}
 use native.Mathlib.Omega.{arith}
 use native.Mathlib.Decide.{decLt}
-use borrow.Author.Tests.{not-true}
 use Rattle.rule.proofs.GivenLaws.{neither}
-use Rattle.days.specs.DaySets.{isBlank, FirstMarked}
-use Rattle.days.proofs.MaskLaws.{Filling, fill-no}
+use Rattle.days.specs.DaySets.{someOfFour, hasEvery, FirstMarked}
+use Rattle.plain.proofs.Filling.{Filling, fill-no}
 
 -- no place is marked from `from` up to `at`
 pub record Searched (marks : List Bool) (from to at : ℕ) : Type 0 where
@@ -58,31 +57,44 @@ module _ (marks : List Bool) (from to : ℕ) where
       go i a b (yes l) = s .blank i a l
       go i a b (no l) = f .blank i (omega arith) b
 
--- eight places that aren't marked, one by one
-pub eight-blank : (marks : List Bool) (at : ℕ) → isBlank marks at ≡ true → (i : ℕ) → at ≤ i → i < at + 8 → getD marks i false ≡ false
-eight-blank marks at h i l r =
-    let a = neither _ _ (not-true _ h) in
-    let b = neither _ _ (a .1) in
-    let c = neither _ _ (b .1) in
-    let d = neither _ _ (c .1) in
-    let e = neither _ _ (d .1) in
-    let f = neither _ _ (e .1) in
-    let g = neither _ _ (f .1) in
-    let q : at + (i - at) ≡ i = omega arith in
-    ap (λ (k : ℕ). getD marks k false) (sym q) ∙ go (i - at) (omega arith) (a .0) (b .0) (c .0) (d .0) (e .0) (f .0) (g .0) (g .1)
+-- seven flags are twice four: one of them is seen twice
+pub every-by-fours : (s : List Bool) → (someOfFour s 371 || someOfFour s 374) ≡ hasEvery s
+every-by-fours s = go (getD s 371 false) (getD s 372 false) (getD s 373 false) (getD s 374 false) _
   where
-    go : (k : ℕ) → k < 8 → getD marks at false ≡ false → getD marks (at + 1) false ≡ false → getD marks (at + 2) false ≡ false
-        → getD marks (at + 3) false ≡ false → getD marks (at + 4) false ≡ false → getD marks (at + 5) false ≡ false
-        → getD marks (at + 6) false ≡ false → getD marks (at + 7) false ≡ false → getD marks (at + k) false ≡ false
-    go zero l a b c d e f g h = ap (λ (k : ℕ). getD marks k false) (omega arith) ∙ a
-    go (suc zero) l a b c d e f g h = b
-    go (suc (suc zero)) l a b c d e f g h = c
-    go (suc (suc (suc zero))) l a b c d e f g h = d
-    go (suc (suc (suc (suc zero)))) l a b c d e f g h = e
-    go (suc (suc (suc (suc (suc zero))))) l a b c d e f g h = f
-    go (suc (suc (suc (suc (suc (suc zero)))))) l a b c d e f g h = g
-    go (suc (suc (suc (suc (suc (suc (suc zero))))))) l a b c d e f g h = h
-    go (suc (suc (suc (suc (suc (suc (suc (suc k)))))))) l a b c d e f g h = absurd (omega arith)
+    go : (a b c d e : Bool) → ((a || (b || (c || d))) || (d || e)) ≡ (a || (b || (c || (d || e))))
+    go true b c d e = refl
+    go false true c d e = refl
+    go false false true d e = refl
+    go false false false true e = refl
+    go false false false false e = refl
+
+-- four places that aren't marked, and twice four, one by one
+four-blank : (marks : List Bool) (at : ℕ) → someOfFour marks at ≡ false → (i : ℕ) → at ≤ i → i < at + 4 → getD marks i false ≡ false
+four-blank marks at h i l r =
+    let a = neither (getD marks at false) (getD marks (at + 1) false || (getD marks (at + 2) false || getD marks (at + 3) false)) h in
+    let b = neither (getD marks (at + 1) false) (getD marks (at + 2) false || getD marks (at + 3) false) (a .1) in
+    let c = neither (getD marks (at + 2) false) (getD marks (at + 3) false) (b .1) in
+    let q : at + (i - at) ≡ i = omega (arith, l) in
+    ap (λ (k : ℕ). getD marks k false) (sym q) ∙ go (i - at) (omega (arith, l, r)) (a .0) (b .0) (c .0) (c .1)
+  where
+    go : (k : ℕ) → k < 4 → getD marks at false ≡ false → getD marks (at + 1) false ≡ false → getD marks (at + 2) false ≡ false
+        → getD marks (at + 3) false ≡ false → getD marks (at + k) false ≡ false
+    go zero l a b c d = ap (λ (k : ℕ). getD marks k false) (omega arith) ∙ a
+    go (suc zero) l a b c d = b
+    go (suc (suc zero)) l a b c d = c
+    go (suc (suc (suc zero))) l a b c d = d
+    go (suc (suc (suc (suc k)))) l a b c d = absurd (omega arith)
+
+pub eight-blank : (marks : List Bool) (at : ℕ) → (someOfFour marks at || someOfFour marks (at + 4)) ≡ false
+    → (i : ℕ) → at ≤ i → i < at + 8 → getD marks i false ≡ false
+eight-blank marks at h i l r = go (decLt i (at + 4))
+  where
+    both : (someOfFour marks at ≡ false) × (someOfFour marks (at + 4) ≡ false)
+    both = neither (someOfFour marks at) (someOfFour marks (at + 4)) h
+
+    go : Dec (i < at + 4) → getD marks i false ≡ false
+    go (yes k) = four-blank marks at (both .0) i l k
+    go (no k) = four-blank marks (at + 4) (both .1) i (omega arith) (omega arith)
 
 -- a day set goes on over places that don't pass
 module _ (p : ℕ → Bool) (end : ℕ) (xs b₀ b : List ℕ) (count : ℕ) where
@@ -91,7 +103,8 @@ module _ (p : ℕ → Bool) (end : ℕ) (xs b₀ b : List ℕ) (count : ℕ) whe
   fill-on zero place h f x = let q : place + 0 ≡ place = omega arith in rw q x
   fill-on (suc n) place h f x =
       let q : place + 1 + n ≡ place + suc n = omega arith in
-      let y = fill-on n (place + 1) (omega arith) (λ i a l. f i (omega arith) (omega arith)) (fill-no p end xs b₀ b count place (omega arith) (f place (omega arith) (omega arith)) x) in
+      let y = fill-on n (place + 1) (omega arith) (λ i a l. f i (omega arith) (omega arith))
+      (fill-no p end xs b₀ b count place (omega arith) (f place (omega arith) (omega arith)) x) in
       rw q at y
 
   pub fill-skips : (place r : ℕ) → place ≤ r → r ≤ end → ((i : ℕ) → place ≤ i → i < r → p i ≡ false) → Filling p end xs b₀ b count place

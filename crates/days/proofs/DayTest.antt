@@ -10,7 +10,8 @@ use native.Mathlib.Omega.{arith}
 use native.Mathlib.Decide.{decLt}
 use borrow.Author.Tests.{lt-ltb, le-leb, not-false}
 use Rattle.calendar.specs.declared.utils.Date.{Date}
-use Rattle.calendar.specs.Calendar.{if_then_else_, leap, daysOf, yearLength, newYear, yearOf, MonthDay, noDay, monthDayOf, fromEnd, tableDay, monthTable, monthDayTable, fromEndTable, dateIn, yearDay, dateOf, weekday}
+use Rattle.calendar.specs.Calendar.{if_then_else_, leap, daysOf, yearLength, newYear, yearOf, dateIn, yearDay, dateOf, weekday}
+use Rattle.calendar.specs.Calendar.{MonthDay, noDay, monthDayOf, fromEnd, tableDay, monthTable, monthDayTable, fromEndTable}
 use Rattle.calendar.specs.Claims.{InPlace}
 use Rattle.calendar.proofs.Table.{same-below}
 use Rattle.calendar.proofs.Years.{years-follow, one-place}
@@ -26,7 +27,8 @@ use Rattle.weeks.specs.Weeks.{yearInfo, weekMask}
 use Rattle.weeks.proofs.Years.{mask-of-rule}
 use Rattle.rule.specs.Days.{eitherEnd, yearday, nthPasses, asked, monthPasses, monthdayPasses, yeardayPasses, weekPasses, weekdayPasses, datePasses, dayPasses}
 use Rattle.nths.specs.Masks.{yearDayAt, yearLengthAt, nthAt, nthMask}
-use Rattle.days.specs.Filters.{ruleLists, whereAsked, monthAt, monthdayAt, yeardayAt, weekdayAt, placePasses}
+use Rattle.plain.specs.DaySets.{monthAt}
+use Rattle.days.specs.Filters.{ruleLists, whereAsked, monthdayAt, yeardayAt, weekdayAt, placePasses}
 use Rattle.years.specs.Info.{askedOf, tableWhere, maskWhere, infoOf, countsInYear, ruleInfo}
 use Rattle.rule.specs.Candidates.{gather, only}
 use Rattle.clocks.specs.Blocks.{passing}

@@ -1,39 +1,23 @@
 -- What each filter reads is its list's test.
 -- Assumes nothing.
 use Prim.Native.Nat.{ℕ, zero, suc, _+_, _-_, _%_, _≤_, _<_}
-use mathlib.Core.Path.{_≡_, refl, sym, ap, _∙_}
+use mathlib.Core.Path.{_≡_, refl, ap, _∙_}
 use mathlib.Core.Bool.{Bool, true, false, not, _&&_, _||_}
 use mathlib.Core.List.{List}
 use lib.IntN.{pos, negℤ}
 use lib.ListN.{getD}
 use native.Mathlib.Omega.{arith}
-use borrow.Author.Tests.{lt-leb}
 use Rattle.calendar.specs.Calendar.{daysOf, weekday}
-use Rattle.rule.specs.declared.rrule.Range.{Range}
-use Rattle.rule.specs.Lists.{monthdays, yeardays, slotOf, isIn}
+use Rattle.rule.specs.Lists.{monthdays, yeardays, isIn}
 use Rattle.years.specs.declared.lists.Asked.{Asked}
 use Rattle.years.specs.declared.iterinfo.IterInfo.{IterInfo}
 use Rattle.nths.specs.Masks.{inTables, yearDayAt, yearLengthAt}
-use Rattle.days.specs.Filters.{DayLists, whereAsked, hasMonth, hasDay, hasLeft, monthAt, monthdayAt, yeardayAt, weekdayAt, placePasses}
-use Rattle.nths.proofs.Rows.{YearDay, year-day}
+use Rattle.plain.specs.DaySets.{hasMonth, monthAt}
+use Rattle.days.specs.Filters.{DayLists, whereAsked, hasDay, hasLeft, monthdayAt, yeardayAt, weekdayAt, placePasses}
+use Rattle.nths.proofs.Rows.{year-day}
 use Rattle.nths.proofs.Slots.{in-forward, in-back, end-slots, every-slot}
 
--- a number that a list has no value for is not in it: 0, and one past the list's range
-pub none-at-nought : (g : Range) (s : List Bool) (v : ℕ) → g .zeroin ≡ false → v ≡ 0 → (isIn g s (pos v) ≡ false) × (isIn g s (negℤ (pos v)) ≡ false)
-unfolding isIn slotOf
-none-at-nought g s v z e = rw (e, z) (refl, refl)
-
-pub none-above : (g : Range) (s : List Bool) (v : ℕ) → g .positives < v → isIn g s (pos v) ≡ false
-unfolding isIn slotOf
-none-above g s zero h = absurd (omega arith)
-none-above g s (suc v) h = rw (lt-leb (suc v) (g .positives) h)
-
-pub none-below : (g : Range) (s : List Bool) (v : ℕ) → g .negatives < v → isIn g s (negℤ (pos v)) ≡ false
-unfolding isIn slotOf
-none-below g s zero h = absurd (omega arith)
-none-below g s (suc v) h = rw (lt-leb (suc v) (g .negatives) h)
-
--- where it has one, its flag is read
+-- where BYMONTHDAY has a value, its flag is read
 pub day-slot : (s : List Bool) (d : ℕ) → 1 ≤ d → d ≤ 31 → isIn monthdays s (pos d) ≡ getD s (30 + d) false
 day-slot s zero l h = absurd (omega arith)
 day-slot s (suc d) l h = in-forward monthdays s d (omega arith) ∙ ap (λ (i : ℕ). getD s i false) (omega arith)

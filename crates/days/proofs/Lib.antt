@@ -1,6 +1,6 @@
 pub mod Blanks
 pub mod DayTest
 pub mod FilterLaws
-pub mod MaskLaws
+pub mod Keeping
 pub mod OneAnswer
 pub mod Stretches

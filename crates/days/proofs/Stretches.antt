@@ -9,17 +9,21 @@ use lib.Seq.{sets}
 use native.Mathlib.Omega.{arith}
 use native.Mathlib.Decide.{decLt}
 use borrow.Author.Tests.{lt-ltb, le-ltb, not-true, not-false}
-use Rattle.calendar.specs.Calendar.{daysOf, weekday}
+use Rattle.calendar.specs.Calendar.{if_then_else_, daysOf, weekday}
 use Rattle.rule.specs.Candidates.{gather, only}
 use Rattle.rule.proofs.GivenLaws.{neither}
 use Rattle.clocks.specs.Blocks.{passing}
+use Rattle.clocks.proofs.Tied.{passing-same}
+use Rattle.weeks.specs.declared.yearinfo.Year.{Year}
 use Rattle.years.specs.declared.lists.Asked.{Asked}
 use Rattle.years.specs.declared.iterinfo.IterInfo.{IterInfo}
 use Rattle.nths.specs.Masks.{inTables}
-use Rattle.days.specs.Filters.{DayLists, monthAt, yeardayAt, weekdayAt, placePasses}
-use Rattle.days.specs.DaySets.{daySet, isPlain, isMonthAlone, isMixed, hasEvery, allDays, markedDays, monthDays, yearDays, weekdayDays}
+use Rattle.plain.specs.DaySets.{isPlain, isMonthAlone, isMixed, monthAt, allDays, monthDays}
+use Rattle.days.specs.Filters.{DayLists, yeardayAt, weekdayAt, placePasses}
+use Rattle.days.specs.DaySets.{daySet, hasEvery, markedDays, yearDays, weekdayDays, soleDays}
 use Rattle.nths.proofs.Rows.{days-high}
 use Rattle.nths.proofs.Slots.{every-slot}
+use Rattle.plain.proofs.Filling.{passing-done}
 use Rattle.days.proofs.FilterLaws.{past-fails}
 
 -- two tests that agree below e, of which one passes nothing from e on
@@ -75,6 +79,10 @@ module _ (a : Asked) (info : IterInfo) (l : DayLists) (from to : ℕ) where
       (min to 373) (min to 373 - from) from refl
       ∙ ap (λ (n : ℕ). passing q n from) m
 
+  -- all the filters are asked no further than the tables go
+  pub by-all : daySet a info l from to ≡ passing (placePasses a info l) (min to (daysOf (info .year .long) + 7) - from) from
+  by-all = by-test (placePasses a info l) (λ i t. refl)
+
   -- where lists are not mixed, what is asked beside one that is asked
   record Sole : Type 0 where
     pub monthday : a .monthday ≡ false
@@ -84,7 +92,8 @@ module _ (a : Asked) (info : IterInfo) (l : DayLists) (from to : ℕ) where
 
   sole : isMixed a ≡ false → Sole
   sole h =
-      let x = neither (a .monthday) ((a .month && (a .yearday || (a .weekno || a .day))) || ((a .yearday && (a .weekno || a .day)) || (a .weekno && a .day))) h in
+      let x = neither (a .monthday)
+      ((a .month && (a .yearday || (a .weekno || a .day))) || ((a .yearday && (a .weekno || a .day)) || (a .weekno && a .day))) h in
       let v = neither (a .month && (a .yearday || (a .weekno || a .day))) ((a .yearday && (a .weekno || a .day)) || (a .weekno && a .day)) (x .1) in
       let w = neither (a .yearday && (a .weekno || a .day)) (a .weekno && a .day) (v .1) in
       record { monthday = x .0; beside-month = v .0; beside-yearday = w .0; beside-week = w .1 }
@@ -93,7 +102,8 @@ module _ (a : Asked) (info : IterInfo) (l : DayLists) (from to : ℕ) where
   and-true true = refl
   and-true false = refl
 
-  pub by-month : isMixed a ≡ false → a .month ≡ true → daySet a info l from to ≡ monthDays (info .months) (l .bymonth) from (min to (daysOf (info .year .long) + 7))
+  pub by-month : isMixed a ≡ false → a .month ≡ true
+      → daySet a info l from to ≡ monthDays (info .months) (l .bymonth) from (min to (daysOf (info .year .long) + 7))
   unfolding monthDays placePasses
   by-month h k =
       let u = sole h in
@@ -122,7 +132,8 @@ module _ (a : Asked) (info : IterInfo) (l : DayLists) (from to : ℕ) where
       let u = sole h in
       let r : (a .weekno || a .day) ≡ false = rw k at (u .beside-yearday) in
       let c = neither (a .weekno) (a .day) r in
-      by-test (yeardayAt (info .year .long) (info .year .nextlong) (l .byyearday)) (λ i t. rw (t, m, u .monthday, k, c .0, c .1) (and-true (yeardayAt (info .year .long) (info .year .nextlong) (l .byyearday) i)))
+      by-test (yeardayAt (info .year .long) (info .year .nextlong) (l .byyearday))
+      (λ i t. rw (t, m, u .monthday, k, c .0, c .1) (and-true (yeardayAt (info .year .long) (info .year .nextlong) (l .byyearday) i)))
 
   pub by-weeks : isMixed a ≡ false → a .month ≡ false → a .yearday ≡ false → a .weekno ≡ true
       → daySet a info l from to ≡ markedDays (info .weeks) from (min to (daysOf (info .year .long) + 7))
@@ -151,11 +162,55 @@ module _ (a : Asked) (info : IterInfo) (l : DayLists) (from to : ℕ) where
   by-weekday p h m x k =
       by-test (weekdayAt (a .nth) (info .year .first) (l .byday) (info .nths)) (λ i t. rw (t, m, sole h .monthday, x, k, day-asked p h m x k))
 
-  pub by-nths : isPlain a ≡ false → isMixed a ≡ false → a .month ≡ false → a .yearday ≡ false → a .weekno ≡ false → a .nth ≡ true → hasEvery (l .byday) ≡ false
-      → daySet a info l from to ≡ markedDays (info .nths) from (min to (daysOf (info .year .long) + 7))
-  unfolding markedDays placePasses weekdayAt
-  by-nths p h m x k n e =
-      by-test (λ i. getD (info .nths) i false) (λ i t. rw (t, m, sole h .monthday, x, k, day-asked p h m x k, n, every-slot (l .byday) ((info .year .first + i) % 7) (omega arith), no-every (l .byday) ((info .year .first + i) % 7) e (omega arith)))
+  -- where nothing else is asked, the first of three lists decides
+  pub by-sole : isPlain a ≡ false → isMixed a ≡ false → a .month ≡ false
+      → daySet a info l from to ≡ soleDays a (info .year) (l .byyearday) (l .byday) (info .weeks) (info .nths) from (min to (daysOf (info .year .long) + 7))
+  unfolding soleDays
+  by-sole p h m = go (a .yearday) (a .weekno) refl refl
+    where
+      end : ℕ
+      end = min to (daysOf (info .year .long) + 7)
+
+      go : (x k : Bool) → a .yearday ≡ x → a .weekno ≡ k
+          → daySet a info l from to ≡ (if x then yearDays (info .year .long) (info .year .nextlong) (l .byyearday) from end
+          else if k then markedDays (info .weeks) from end
+          else weekdayDays (a .nth) (info .year .first) (l .byday) (info .nths) from end)
+      go true k e f = by-year-day h m e
+      go false true e f = by-weeks h m e f
+      go false false e f = by-weekday p h m e f
+
+module _ (a : Asked) (year : Year) (byyearday byday weeks nths : List Bool) (from end : ℕ) where
+  pub sole-none : end ≤ from → soleDays a year byyearday byday weeks nths from end ≡ []
+  unfolding soleDays
+  sole-none h = go (a .yearday) (a .weekno)
+    where
+      go : (x k : Bool) → (if x then yearDays (year .long) (year .nextlong) byyearday from end
+          else if k then markedDays weeks from end
+          else weekdayDays (a .nth) (year .first) byday nths from end) ≡ []
+      go true k = passing-done (yeardayAt (year .long) (year .nextlong) byyearday) end from h
+      go false true = passing-done (λ i. getD weeks i false) end from h
+      go false false = passing-done (weekdayAt (a .nth) (year .first) byday nths) end from h
+
+  pub sole-year-days : a .yearday ≡ true → soleDays a year byyearday byday weeks nths from end ≡ yearDays (year .long) (year .nextlong) byyearday from end
+  unfolding soleDays
+  sole-year-days h = rw h
+
+  pub sole-weeks : a .yearday ≡ false → a .weekno ≡ true → soleDays a year byyearday byday weeks nths from end ≡ markedDays weeks from end
+  unfolding soleDays
+  sole-weeks x h = rw (x, h)
+
+  pub sole-weekdays : a .yearday ≡ false → a .weekno ≡ false
+      → soleDays a year byyearday byday weeks nths from end ≡ weekdayDays (a .nth) (year .first) byday nths from end
+  unfolding soleDays
+  sole-weekdays x h = rw (x, h)
+
+-- without an entry for every weekday, the mask of the nths decides
+pub by-nths : (nth : Bool) (first : ℕ) (s nths : List Bool) (from end : ℕ) → nth ≡ true → hasEvery s ≡ false
+    → weekdayDays nth first s nths from end ≡ markedDays nths from end
+unfolding weekdayDays markedDays weekdayAt
+by-nths nth first s nths from end n e =
+    passing-same (weekdayAt nth first s nths) (λ i. getD nths i false) (end - from) from
+    (λ i a b. rw (n, every-slot s ((first + i) % 7) (omega arith), no-every s ((first + i) % 7) e (omega arith)))
 
 -- what is written of one list is written of the same list by another name
 pub as-set : (xs ys b b₀ : List ℕ) (n : ℕ) → xs ≡ ys → n ≡ length ys → b ≡ sets b₀ 0 ys → (n ≡ length xs) × (b ≡ sets b₀ 0 xs)

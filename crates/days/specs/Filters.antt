@@ -6,12 +6,13 @@ use mathlib.Core.List.{List}
 use lib.IntN.{pos, negℤ}
 use lib.ListN.{getD}
 use Rattle.calendar.specs.Calendar.{weekday}
-use Rattle.rule.specs.Lists.{months, monthdays, yeardays, isIn, isPairIn}
+use Rattle.rule.specs.Lists.{monthdays, yeardays, isIn, isPairIn}
 use Rattle.rule.specs.declared.rrule.Rule.{Rule}
 use Rattle.rule.specs.Days.{eitherEnd}
 use Rattle.nths.specs.Masks.{inTables, yearDayAt, yearLengthAt}
 use Rattle.years.specs.declared.lists.Asked.{Asked}
 use Rattle.years.specs.declared.iterinfo.IterInfo.{IterInfo}
+use Rattle.plain.specs.DaySets.{monthAt}
 
 -- the day lists that are asked by the date
 pub record DayLists : Type 0 where
@@ -31,21 +32,14 @@ ruleLists r = dayLists (r .bymonth) (r .bymonthday) (r .byyearday) (r .byday)
 abbrev pub whereAsked : Bool → Bool → Bool
 whereAsked a b = not a || b
 
--- a month is in BYMONTH; a day of the month, and one from the month's end, is in BYMONTHDAY
-abbrev pub hasMonth : List Bool → ℕ → Bool
-hasMonth s month = isIn months s (pos month)
-
+-- a day of the month, and one from the month's end, is in BYMONTHDAY
 abbrev pub hasDay : List Bool → ℕ → Bool
 hasDay s day = isIn monthdays s (pos day)
 
 abbrev pub hasLeft : List Bool → ℕ → Bool
 hasLeft s left = isIn monthdays s (negℤ (pos left))
 
--- each list's test at place i, in document 01's order; of the date it sees what the year's tables have there
-unfoldable pub monthAt : (table : List ℕ) → List Bool → ℕ → Bool
-unfolding isIn
-monthAt table s i = hasMonth s (getD table i 0)
-
+-- each list's test at place i, after BYMONTH's, in document 01's order; of the date it sees what the year's tables have there
 unfoldable pub monthdayAt : (days ends : List ℕ) → List Bool → ℕ → Bool
 unfolding isIn
 monthdayAt days ends s i = hasDay s (getD days i 0) || hasLeft s (getD ends i 0)

@@ -1,8 +1,9 @@
 // The filters of a day set, in document 01's order. Each asks its list only where there is one.
-use crate::places::is_past;
 use crate::places::weekday_at;
+use nths::places::days_of;
 use nths::places::year_day;
 use nths::places::year_day_from_end;
+use plain::filters::has_month;
 use weeks::yearinfo::Year;
 use years::lists::Asked;
 ghost use mathlib.Core.Path.{_≡_};
@@ -11,21 +12,10 @@ ghost use Prim.Native.Nat.{_+_, _<_};
 ghost use lib.ListN.{getD};
 ghost use Rattle.calendar.specs.Calendar.{daysOf};
 ghost use Rattle.years.specs.Info.{infoBy};
-ghost use Rattle.days.specs.Filters.{whereAsked, hasMonth, hasDay, hasLeft, monthAt, monthdayAt, yeardayAt, weekdayAt, dayLists, placePasses};
+ghost use Rattle.plain.specs.DaySets.{monthAt};
+ghost use Rattle.days.specs.Filters.{whereAsked, hasDay, hasLeft, monthdayAt, yeardayAt, weekdayAt, dayLists, placePasses};
 
-// Whether BYMONTH has a month, and BYMONTHDAY a day of the month or one from the month's end.
-fn has_month(bymonth: &[bool; 12], month: u8) -> bool
-    ensures { λ r. ⌜ r ≡ hasMonth (now (bymonth .entry)) month ⌝ }
-{
-    if month == 0 {
-        return false;
-    }
-    if 12 < month {
-        return false;
-    }
-    bymonth[(month - 1) as usize]
-}
-
+// Whether BYMONTHDAY has a day of the month, and one from the month's end.
 fn has_day(bymonthday: &[bool; 62], day: u8) -> bool
     ensures { λ r. ⌜ r ≡ hasDay (now (bymonthday .entry)) day ⌝ }
 {
@@ -51,12 +41,7 @@ fn has_left(bymonthday: &[bool; 62], left: u8) -> bool
 }
 
 // The month and the month day of a place are read of the year's tables.
-pub(crate) fn is_filtered_by_month(
-    asked: bool,
-    place: usize,
-    bymonth: &[bool; 12],
-    months: &[u8; 373],
-) -> bool
+fn is_filtered_by_month(asked: bool, place: usize, bymonth: &[bool; 12], months: &[u8; 373]) -> bool
     requires { ⌜ place < 373 ⌝ }
     ensures { λ r. ⌜ r ≡ not (whereAsked asked (monthAt (now (months .entry)) (now (bymonth .entry)) place)) ⌝ }
 {
@@ -156,10 +141,12 @@ pub fn is_filtered<'a, 'b>(
     weeks: &'b [bool; 373],
     nths: &'b [bool; 373],
 ) -> bool
-    ensures { λ r. ⌜ r ≡ not (placePasses asked (infoBy year (now (months .entry)) (now (monthdays .entry)) (now (fromends .entry)) (now (weeks .entry)) (now (nths .entry))) (dayLists (now (bymonth .entry)) (now (bymonthday .entry)) (now (byyearday .entry)) (now (byday .entry))) place) ⌝ }
+    ensures { λ r. ⌜ r ≡ not (placePasses asked
+        (infoBy year (now (months .entry)) (now (monthdays .entry)) (now (fromends .entry)) (now (weeks .entry)) (now (nths .entry)))
+        (dayLists (now (bymonth .entry)) (now (bymonthday .entry)) (now (byyearday .entry)) (now (byday .entry))) place) ⌝ }
 {
     let long = year.long;
-    if is_past(long, place) {
+    if days_of(long) + 7 <= place {
         return true;
     }
     is_filtered_by_month(asked.month, place, bymonth, months)

@@ -1,30 +1,26 @@
 // Day sets.
 use crate::filters::is_filtered;
-use crate::filters::is_filtered_by_month;
 use crate::filters::is_filtered_by_year_day;
 use crate::filters::is_filtered_on;
 use crate::places::next_weekday;
 use crate::places::weekday_at;
-use nths::places::days_of;
+use plain::iterinfo::days_by_month;
+use plain::iterinfo::is_mixed;
+use plain::iterinfo::is_plain;
+use plain::iterinfo::plain_days;
+use plain::iterinfo::stretch_end;
 use weeks::yearinfo::Year;
 use years::lists::Asked;
 ghost use mathlib.Core.Path.{_≡_};
-ghost use Prim.Native.Nat.{_+_, _≤_, min};
-ghost use lib.ListN.{length};
+ghost use Prim.Native.Nat.{_+_, _≤_, _<_, min};
+ghost use lib.ListN.{length, set};
 ghost use lib.Seq.{sets};
 ghost use Rattle.years.specs.Info.{infoBy};
 ghost use Rattle.days.specs.Filters.{dayLists};
-ghost use Rattle.calendar.specs.Calendar.{daysOf};
-ghost use Rattle.days.specs.DaySets.{daySet, isPlain, isMonthAlone, isMixed, isBlank, FirstMarked, hasEvery, allDays, markedDays, monthDays, yearDays, weekdayDays};
+ghost use Rattle.calendar.specs.Calendar.{if_then_else_, daysOf};
+ghost use Rattle.days.specs.DaySets.{daySet, someOfFour, FirstMarked, hasEvery, markedDays, yearDays, weekdayDays, soleDays};
 
-// A stretch ends with the tables.
-fn table_end(to: usize) -> usize
-    ensures { λ r. ⌜ r ≡ min to 373 ⌝ }
-{
-    if to < 373 { to } else { 373 }
-}
-
-// The same by all the filters, day by day.
+// The passing places of a stretch, by all the filters, day by day.
 fn filtered_days<'a, 'b>(
     asked: Asked,
     year: Year,
@@ -41,12 +37,16 @@ fn filtered_days<'a, 'b>(
     nths: &'b [bool; 373],
     days: &mut [u16; 373],
 ) -> usize
-    ensures count { λ r. ⌜ r ≡ length (daySet asked (infoBy year (now (months .entry)) (now (monthdays .entry)) (now (fromends .entry)) (now (weeks .entry)) (now (nths .entry))) (dayLists (now (bymonth .entry)) (now (bymonthday .entry)) (now (byyearday .entry)) (now (byday .entry))) from to) ⌝ }
-    ensures places { λ r. ⌜ now (days .exit) ≡ sets (now (days .entry)) 0 (daySet asked (infoBy year (now (months .entry)) (now (monthdays .entry)) (now (fromends .entry)) (now (weeks .entry)) (now (nths .entry))) (dayLists (now (bymonth .entry)) (now (bymonthday .entry)) (now (byyearday .entry)) (now (byday .entry))) from to) ⌝ }
+    ensures count { λ r. ⌜ r ≡ length (daySet asked
+        (infoBy year (now (months .entry)) (now (monthdays .entry)) (now (fromends .entry)) (now (weeks .entry)) (now (nths .entry)))
+        (dayLists (now (bymonth .entry)) (now (bymonthday .entry)) (now (byyearday .entry)) (now (byday .entry))) from to) ⌝ }
+    ensures places { λ r. ⌜ now (days .exit) ≡ sets (now (days .entry)) 0 (daySet asked
+        (infoBy year (now (months .entry)) (now (monthdays .entry)) (now (fromends .entry)) (now (weeks .entry)) (now (nths .entry)))
+        (dayLists (now (bymonth .entry)) (now (bymonthday .entry)) (now (byyearday .entry)) (now (byday .entry))) from to) ⌝ }
 {
-    let end = table_end(to);
+    let stop = stretch_end(year.long, to);
     let mut count: usize = 0;
-    for place in from..end {
+    for place in from..stop {
         if is_filtered(
             asked,
             year,
@@ -69,77 +69,19 @@ fn filtered_days<'a, 'b>(
     count
 }
 
-// Whether no list is asked.
-pub fn is_plain(asked: Asked) -> bool
-    ensures { λ r. ⌜ r ≡ isPlain asked ⌝ }
+// Whether one of four flags is set.
+fn some_of_four(flags: &[bool], at: usize) -> bool
+    requires { ⌜ at + 4 ≤ length (now flags) ⌝ }
+    ensures { λ r. ⌜ r ≡ someOfFour (now (flags .entry)) at ⌝ }
 {
-    !(asked.month | (asked.monthday | (asked.yearday | (asked.weekno | asked.day))))
-}
-
-// Whether BYMONTH alone is asked.
-pub fn is_month_alone(asked: Asked) -> bool
-    ensures { λ r. ⌜ r ≡ isMonthAlone asked ⌝ }
-{
-    asked.month & !(asked.monthday | (asked.yearday | (asked.weekno | asked.day)))
-}
-
-// Whether more than one list is asked, or BYMONTHDAY: then each day goes through the filters.
-fn is_mixed(asked: Asked) -> bool
-    ensures { λ r. ⌜ r ≡ isMixed asked ⌝ }
-{
-    asked.monthday
-        | ((asked.month & (asked.yearday | (asked.weekno | asked.day)))
-            | ((asked.yearday & (asked.weekno | asked.day)) | (asked.weekno & asked.day)))
+    flags[at] | (flags[at + 1] | (flags[at + 2] | flags[at + 3]))
 }
 
 // Whether BYDAY has an entry for every weekday of its kind.
 fn has_every(byday: &[bool; 749]) -> bool
     ensures { λ r. ⌜ r ≡ hasEvery (now (byday .entry)) ⌝ }
 {
-    byday[371]
-        | (byday[372] | (byday[373] | (byday[374] | (byday[375] | (byday[376] | byday[377])))))
-}
-
-// A stretch ends with the year's tables.
-fn stretch_end(long: bool, to: usize) -> usize
-    ensures { λ r. ⌜ r ≡ min to (daysOf long + 7) ⌝ }
-{
-    let tables = days_of(long) + 7;
-    if to < tables { to } else { tables }
-}
-
-// All the places of a stretch.
-fn all_days(from: usize, end: usize, days: &mut [u16; 373]) -> usize
-    requires { ⌜ end ≤ 373 ⌝ }
-    ensures count { λ r. ⌜ r ≡ length (allDays from end) ⌝ }
-    ensures places { λ r. ⌜ now (days .exit) ≡ sets (now (days .entry)) 0 (allDays from end) ⌝ }
-{
-    let mut written: usize = 0;
-    for place in from..end {
-        days[written] = place as u16;
-        written += 1;
-    }
-    written
-}
-
-// The day set where no list is asked: all the places of a stretch of a year's tables.
-pub fn plain_days(long: bool, from: usize, to: usize, days: &mut [u16; 373]) -> usize
-    ensures count { λ r. ⌜ r ≡ length (allDays from (min to (daysOf long + 7))) ⌝ }
-    ensures places { λ r. ⌜ now (days .exit) ≡ sets (now (days .entry)) 0 (allDays from (min to (daysOf long + 7))) ⌝ }
-{
-    all_days(from, stretch_end(long, to), days)
-}
-
-// Whether a mask marks none of eight places.
-fn is_blank(marks: &[bool; 373], at: usize) -> bool
-    requires { ⌜ at + 8 ≤ 373 ⌝ }
-    ensures { λ r. ⌜ r ≡ isBlank (now (marks .entry)) at ⌝ }
-{
-    !(marks[at]
-        | (marks[at + 1]
-            | (marks[at + 2]
-                | (marks[at + 3]
-                    | (marks[at + 4] | (marks[at + 5] | (marks[at + 6] | marks[at + 7])))))))
+    some_of_four(byday, 371) | some_of_four(byday, 374)
 }
 
 // The first place of a stretch that a mask marks, or the stretch's end.
@@ -164,7 +106,7 @@ fn next_marked(marks: &[bool; 373], from: usize, to: usize) -> usize
 {
     let mut at = from;
     while at + 8 <= to {
-        if !is_blank(marks, at) {
+        if some_of_four(marks, at) | some_of_four(marks, at + 4) {
             return first_marked(marks, at, to);
         }
         at += 8;
@@ -174,13 +116,10 @@ fn next_marked(marks: &[bool; 373], from: usize, to: usize) -> usize
 
 // The places of a stretch that a mask marks.
 fn marked_days(marks: &[bool; 373], from: usize, end: usize, days: &mut [u16; 373]) -> usize
-    requires { ⌜ end ≤ 373 ⌝ }
+    requires { ⌜ (from < end) × (end ≤ 373) ⌝ }
     ensures count { λ r. ⌜ r ≡ length (markedDays (now (marks .entry)) from end) ⌝ }
     ensures places { λ r. ⌜ now (days .exit) ≡ sets (now (days .entry)) 0 (markedDays (now (marks .entry)) from end) ⌝ }
 {
-    if end <= from {
-        return 0;
-    }
     let mut marked: usize = 0;
     let mut place = next_marked(marks, from, end);
     while place < end {
@@ -191,42 +130,17 @@ fn marked_days(marks: &[bool; 373], from: usize, end: usize, days: &mut [u16; 37
     marked
 }
 
-// The places of a stretch that pass BYMONTH.
-fn month_days(
-    from: usize,
-    end: usize,
-    bymonth: &[bool; 12],
-    months: &[u8; 373],
-    days: &mut [u16; 373],
-) -> usize
-    requires { ⌜ end ≤ 373 ⌝ }
-    ensures count { λ r. ⌜ r ≡ length (monthDays (now (months .entry)) (now (bymonth .entry)) from end) ⌝ }
-    ensures places { λ r. ⌜ now (days .exit) ≡ sets (now (days .entry)) 0 (monthDays (now (months .entry)) (now (bymonth .entry)) from end) ⌝ }
+// Writes a place behind those that are kept, unless it is filtered out, and how many are kept now.
+fn keep(days: &mut [u16; 373], kept: usize, place: usize, out: bool) -> usize
+    requires { ⌜ (kept < 373) × (place < 373) ⌝ }
+    ensures count { λ r. ⌜ r ≡ (if out then kept else kept + 1) ⌝ }
+    ensures places { λ r. ⌜ now (days .exit) ≡ (if out then now (days .entry) else set (now (days .entry)) kept place) ⌝ }
 {
-    let mut taken: usize = 0;
-    for place in from..end {
-        if is_filtered_by_month(true, place, bymonth, months) {
-            continue;
-        }
-        days[taken] = place as u16;
-        taken += 1;
+    if out {
+        return kept;
     }
-    taken
-}
-
-// The day set where BYMONTH alone is asked.
-pub fn days_by_month(
-    long: bool,
-    from: usize,
-    to: usize,
-    bymonth: &[bool; 12],
-    months: &[u8; 373],
-    days: &mut [u16; 373],
-) -> usize
-    ensures count { λ r. ⌜ r ≡ length (monthDays (now (months .entry)) (now (bymonth .entry)) from (min to (daysOf long + 7))) ⌝ }
-    ensures places { λ r. ⌜ now (days .exit) ≡ sets (now (days .entry)) 0 (monthDays (now (months .entry)) (now (bymonth .entry)) from (min to (daysOf long + 7))) ⌝ }
-{
-    month_days(from, stretch_end(long, to), bymonth, months, days)
+    days[kept] = place as u16;
+    kept + 1
 }
 
 // The places of a stretch that pass BYYEARDAY.
@@ -244,11 +158,8 @@ fn year_days(
 {
     let mut found: usize = 0;
     for place in from..end {
-        if is_filtered_by_year_day(true, long, nextlong, place, byyearday) {
-            continue;
-        }
-        days[found] = place as u16;
-        found += 1;
+        let out = is_filtered_by_year_day(true, long, nextlong, place, byyearday);
+        found = keep(days, found, place, out);
     }
     found
 }
@@ -263,25 +174,51 @@ fn weekday_days<'a, 'b>(
     nths: &'b [bool; 373],
     days: &mut [u16; 373],
 ) -> usize
-    requires { ⌜ end ≤ 373 ⌝ }
+    requires { ⌜ (from < end) × (end ≤ 373) ⌝ }
     ensures count { λ r. ⌜ r ≡ length (weekdayDays nth first (now (byday .entry)) (now (nths .entry)) from end) ⌝ }
     ensures places { λ r. ⌜ now (days .exit) ≡ sets (now (days .entry)) 0 (weekdayDays nth first (now (byday .entry)) (now (nths .entry)) from end) ⌝ }
 {
-    if end <= from {
-        return 0;
-    }
     let mut passed: usize = 0;
     let mut weekday = weekday_at(first, from);
     for place in from..end {
-        let today = weekday;
-        weekday = next_weekday(today);
-        if is_filtered_on(nth, today, place, byday, nths) {
-            continue;
-        }
-        days[passed] = place as u16;
-        passed += 1;
+        let out = is_filtered_on(nth, weekday, place, byday, nths);
+        passed = keep(days, passed, place, out);
+        weekday = next_weekday(weekday);
     }
     passed
+}
+
+// The day set where BYYEARDAY, BYWEEKNO or BYDAY alone is asked. Where BYDAY has no entry for every weekday, the mask of the nths decides.
+fn sole_days<'a, 'b>(
+    asked: Asked,
+    year: Year,
+    from: usize,
+    to: usize,
+    byyearday: &'a [bool; 732],
+    byday: &'a [bool; 749],
+    weeks: &'b [bool; 373],
+    nths: &'b [bool; 373],
+    days: &mut [u16; 373],
+) -> usize
+    ensures count { λ r. ⌜ r ≡ length (soleDays asked year
+        (now (byyearday .entry)) (now (byday .entry)) (now (weeks .entry)) (now (nths .entry)) from (min to (daysOf (year .long) + 7))) ⌝ }
+    ensures places { λ r. ⌜ now (days .exit) ≡ sets (now (days .entry)) 0 (soleDays asked year
+        (now (byyearday .entry)) (now (byday .entry)) (now (weeks .entry)) (now (nths .entry)) from (min to (daysOf (year .long) + 7))) ⌝ }
+{
+    let end = stretch_end(year.long, to);
+    if end <= from {
+        return 0;
+    }
+    if asked.yearday {
+        return year_days(year.long, year.nextlong, from, end, byyearday, days);
+    }
+    if asked.weekno {
+        return marked_days(weeks, from, end, days);
+    }
+    if asked.nth & !has_every(byday) {
+        return marked_days(nths, from, end, days);
+    }
+    weekday_days(asked.nth, year.first, from, end, byday, nths, days)
 }
 
 // The passing days of a stretch of a year's tables, as their places in order, and how many there are. The slots behind them stay.
@@ -302,13 +239,16 @@ pub fn get_dayset<'a, 'b>(
     nths: &'b [bool; 373],
     days: &mut [u16; 373],
 ) -> usize
-    ensures count { λ r. ⌜ r ≡ length (daySet asked (infoBy year (now (months .entry)) (now (monthdays .entry)) (now (fromends .entry)) (now (weeks .entry)) (now (nths .entry))) (dayLists (now (bymonth .entry)) (now (bymonthday .entry)) (now (byyearday .entry)) (now (byday .entry))) from to) ⌝ }
-    ensures places { λ r. ⌜ now (days .exit) ≡ sets (now (days .entry)) 0 (daySet asked (infoBy year (now (months .entry)) (now (monthdays .entry)) (now (fromends .entry)) (now (weeks .entry)) (now (nths .entry))) (dayLists (now (bymonth .entry)) (now (bymonthday .entry)) (now (byyearday .entry)) (now (byday .entry))) from to) ⌝ }
+    ensures count { λ r. ⌜ r ≡ length (daySet asked
+        (infoBy year (now (months .entry)) (now (monthdays .entry)) (now (fromends .entry)) (now (weeks .entry)) (now (nths .entry)))
+        (dayLists (now (bymonth .entry)) (now (bymonthday .entry)) (now (byyearday .entry)) (now (byday .entry))) from to) ⌝ }
+    ensures places { λ r. ⌜ now (days .exit) ≡ sets (now (days .entry)) 0 (daySet asked
+        (infoBy year (now (months .entry)) (now (monthdays .entry)) (now (fromends .entry)) (now (weeks .entry)) (now (nths .entry)))
+        (dayLists (now (bymonth .entry)) (now (bymonthday .entry)) (now (byyearday .entry)) (now (byday .entry))) from to) ⌝ }
 {
     if is_plain(asked) {
         return plain_days(year.long, from, to, days);
     }
-    let end = stretch_end(year.long, to);
     if is_mixed(asked) {
         return filtered_days(
             asked,
@@ -328,16 +268,7 @@ pub fn get_dayset<'a, 'b>(
         );
     }
     if asked.month {
-        return month_days(from, end, bymonth, months, days);
+        return days_by_month(year.long, from, to, bymonth, months, days);
     }
-    if asked.yearday {
-        return year_days(year.long, year.nextlong, from, end, byyearday, days);
-    }
-    if asked.weekno {
-        return marked_days(weeks, from, end, days);
-    }
-    if asked.nth & !has_every(byday) {
-        return marked_days(nths, from, end, days);
-    }
-    weekday_days(asked.nth, year.first, from, end, byday, nths, days)
+    sole_days(asked, year, from, to, byyearday, byday, weeks, nths, days)
 }

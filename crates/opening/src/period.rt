@@ -1,9 +1,9 @@
 // A period opened: its candidates by number, and how many are kept.
-use days::iterinfo::days_by_month;
 use days::iterinfo::get_dayset;
-use days::iterinfo::is_month_alone;
-use days::iterinfo::is_plain;
-use days::iterinfo::plain_days;
+use plain::iterinfo::days_by_month;
+use plain::iterinfo::is_month_alone;
+use plain::iterinfo::is_plain;
+use plain::iterinfo::plain_days;
 use plans::plan::Shape;
 use positions::pos_list::build_pos_list;
 use rule::rrule::Frequency;

@@ -3,7 +3,8 @@
 use mathlib.Core.Path.{refl, sym}
 use native.Mathlib.Omega.{arith}
 use Rattle.rule.specs.Lists.{monthdays}
-use Rattle.days.proofs.FilterLaws.{none-at-nought, none-below, left-slot}
+use Rattle.plain.proofs.SlotsPast.{none-at-nought, none-below}
+use Rattle.days.proofs.FilterLaws.{left-slot}
 use borrow.Author.Needs.{needs}
 use Rattle.days.proofs.filters.has_left.Statement.{statement}
 use Rattle.days.proofs.filters.has_left.Tie as tie

@@ -18,7 +18,8 @@ has-month-requires c κs = search needs
 returns-2 : tie.Need-returns-2
 returns-2 c =
     let a = c .before .before .before .args in
-    month-read (a .asked) (a .months .now) (a .bymonth .now) (a .place) (c .has-month .result) (not-false _ (c .before .before .if1 .left)) (c .has-month .ensures)
+    month-read (a .asked) (a .months .now) (a .bymonth .now) (a .place) (c .has-month .result)
+    (not-false _ (c .before .before .if1 .left)) (c .has-month .ensures)
 
 pub is-filtered-by-month-spec : {M : Type 1} → statement M
 is-filtered-by-month-spec = tie.close (tie.spec returns element-copy-out-has-month has-month-requires returns-2)

@@ -20,7 +20,8 @@ returns-2 : tie.Need-returns-2
 returns-2 c =
     let a = c .before .before .before .args in
     c .is-filtered-on .ensures
-    ∙ weekday-read (a .asked) (a .nth) (a .first) (a .byday .now) (a .nths .now) (a .place) (c .before .weekday-at .result) (not-false _ (c .before .before .if1 .left)) (c .before .weekday-at .ensures)
+    ∙ weekday-read (a .asked) (a .nth) (a .first) (a .byday .now) (a .nths .now) (a .place) (c .before .weekday-at .result)
+    (not-false _ (c .before .before .if1 .left)) (c .before .weekday-at .ensures)
 
 pub is-filtered-by-weekday-spec : {M : Type 1} → statement M
 is-filtered-by-weekday-spec =

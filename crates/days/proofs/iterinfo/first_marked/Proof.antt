@@ -33,7 +33,8 @@ loop-less c = search needs
 loop-again : tie.Need-loop-again Inv-loop μ-loop
 loop-again c =
     let a = c .before .before .before .before .args in
-    search-one (a .marks .now) (a .from) (a .to) (c .before .before .before .loop .at) (c .before .before .before .loop .inv) (c .before .before .loop-test .taken) (c .if1 .left)
+    let l = c .before .before .before .loop in
+    search-one (a .marks .now) (a .from) (a .to) (l .at) (l .inv) (c .before .before .loop-test .taken) (c .if1 .left)
 
 returns-2 : tie.Need-returns-2 Inv-loop μ-loop
 returns-2 c =
