@@ -1,19 +1,27 @@
 // Lines whose answers are known: a rule, a bar, and the answer or how it begins. A line that begins with # begins a group. For each
 // group it is written how many lines were compared, for how many of them chains of calls were too, and how many and which differ.
 use crate::answer;
-use crate::output;
-use crate::text;
+use words::text;
 
-// What was compared in a group, once it has begun.
-pub struct Tally {
+// Where reading stands: the bytes of the line so far, the bytes that wait to be written, whether the input is over, and whether the
+// answers are known. Then what was compared in a group, once it has begun.
+pub struct Places {
+    pub used: usize,
+    pub waiting: usize,
+    pub over: bool,
+    pub known: bool,
     pub begun: bool,
     pub lines: u64,
     pub chained: u64,
     pub different: u64,
 }
 
-pub(crate) fn nothing_yet(begun: bool) -> Tally {
-    Tally {
+pub(crate) fn nothing_yet(known: bool, begun: bool) -> Places {
+    Places {
+        used: 0,
+        waiting: 0,
+        over: false,
+        known,
         begun,
         lines: 0,
         chained: 0,
@@ -21,41 +29,41 @@ pub(crate) fn nothing_yet(begun: bool) -> Tally {
     }
 }
 
-pub(crate) fn write_tally(tally: Tally) {
-    if !tally.begun {
+pub(crate) fn write_tally(places: Places) {
+    if !places.begun {
         return;
     }
     let mut out = io::buffer();
-    let end = output::put_form(
-        b"$ compared, $ of them in chains of calls too; $ different\n",
-        &[tally.lines, tally.chained, tally.different],
-        &mut out,
-        0,
-    );
-    output::flush(&out, end);
+    let numbers = [places.lines, places.chained, places.different, 0, 0, 0, 0];
+    let end = forms::put_form(forms::TALLY, numbers, &mut out, 0);
+    forms::flush(&out, end);
 }
 
 // A heading ends a group and begins another; any other line has a rule, and with the bar its answer.
-pub(crate) fn take_line(line: &[u8], out: &mut [u8], tally: Tally) -> Tally {
+pub(crate) fn take_line(line: &[u8], out: &mut [u8], places: Places) -> Places {
     if line.len() == 0 {
-        return tally;
+        return places;
     }
     if line[0] == b'#' {
-        write_tally(tally);
-        io::write_all(1, line);
-        io::write_all(1, b"\n");
-        return nothing_yet(true);
+        return begin_group(line, places);
     }
-    let bar = text::find(line, 0, b'|');
+    let bar = text::first_of(line, b'|');
     let end = answer::write_line(true, &line[0..bar], out, 0);
     if out.len() < end {
-        return tally;
+        return places;
     }
-    hold(line, bar, &out[0..end], tally)
+    hold(line, bar, &out[0..end], places)
+}
+
+fn begin_group(line: &[u8], before: Places) -> Places {
+    write_tally(before);
+    io::write_all(1, line);
+    io::write_all(1, b"\n");
+    nothing_yet(true, true)
 }
 
 // Counts a line, and writes it where its answer isn't the known one.
-fn hold(line: &[u8], bar: usize, answer: &[u8], tally: Tally) -> Tally {
+fn hold(line: &[u8], bar: usize, answer: &[u8], before: Places) -> Places {
     let same = is_known(line, bar, answer);
     if !same {
         io::write_all(1, line);
@@ -63,12 +71,19 @@ fn hold(line: &[u8], bar: usize, answer: &[u8], tally: Tally) -> Tally {
         io::write_all(1, answer);
         io::write_all(1, b"\n");
     }
-    Tally {
-        begun: true,
-        lines: std::num::wrapping_add_u64(tally.lines, 1),
-        chained: std::num::wrapping_add_u64(tally.chained, is_chained(answer) as u64),
-        different: std::num::wrapping_add_u64(tally.different, !same as u64),
-    }
+    counted(before, same, is_chained(answer))
+}
+
+fn counted(before: Places, same: bool, chained: bool) -> Places {
+    let lines = std::num::wrapping_add_u64(before.lines, 1);
+    let chained = std::num::wrapping_add_u64(before.chained, chained as u64);
+    let different = std::num::wrapping_add_u64(before.different, !same as u64);
+    let mut places = before;
+    places.begun = true;
+    places.lines = lines;
+    places.chained = chained;
+    places.different = different;
+    places
 }
 
 // Whether an answer is what stands behind the bar, or begins so and goes on behind a space.

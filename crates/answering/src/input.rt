@@ -1,34 +1,16 @@
 // Reading standard input, a line at a time.
 use crate::answer;
 use crate::compare;
-use crate::compare::Tally;
-use crate::output;
-
-// Where reading stands: the bytes of the line so far, the bytes that wait to be written, whether the input is over, whether the answers
-// are known, and what was compared.
-pub struct Places {
-    pub used: usize,
-    pub waiting: usize,
-    pub over: bool,
-    pub known: bool,
-    pub tally: Tally,
-}
+use crate::compare::Places;
 
 pub(crate) fn read(known: bool) {
     let mut piece = io::large_buffer();
     let mut line = room_for_line();
     let mut out = io::large_buffer();
-    let tally = compare::nothing_yet(false);
-    let first = Places {
-        used: 0,
-        waiting: 0,
-        over: false,
-        known,
-        tally,
-    };
+    let first = compare::nothing_yet(known, false);
     let last = read_all(&mut piece, &mut line, &mut out, first);
-    output::flush(&out, last.waiting);
-    compare::write_tally(last.tally);
+    forms::flush(&out, last.waiting);
+    compare::write_tally(last);
 }
 
 // One byte more than a line may have.
@@ -49,17 +31,26 @@ fn read_all(piece: &mut [u8], line: &mut [u8], out: &mut [u8], first: Places) ->
     places
 }
 
-// Reads once. At the end of the input a last line without its newline counts.
+// Reads once.
 fn read_some(piece: &mut [u8], line: &mut [u8], out: &mut [u8], places: Places) -> Places {
     let got = libc::read(0, piece);
     let count = io::count(got, piece);
-    if 0 < count {
-        return take_bytes(&piece[0..count], line, out, places);
+    if count == 0 {
+        return end_input(line, out, places);
     }
+    take_bytes(&piece[0..count], line, out, places)
+}
+
+// At the end of the input a last line without its newline counts.
+fn end_input(line: &[u8], out: &mut [u8], places: Places) -> Places {
+    if places.used == 0 {
+        return over(places);
+    }
+    over(end_line(line, out, places))
+}
+
+fn over(places: Places) -> Places {
     let mut last = places;
-    if 0 < places.used {
-        last = end_line(line, out, places);
-    }
     last.over = true;
     last
 }
@@ -77,14 +68,18 @@ fn take_byte(byte: u8, line: &mut [u8], out: &mut [u8], places: Places) -> Place
     if byte == b'\n' {
         return end_line(line, out, places);
     }
-    let used = places.used;
+    let used = put_behind(byte, line, places.used);
+    let mut next = places;
+    next.used = used;
+    next
+}
+
+fn put_behind(byte: u8, line: &mut [u8], used: usize) -> usize {
     if line.len() <= used {
-        return places;
+        return used;
     }
     line[used] = byte;
-    let mut next = places;
-    next.used = used + 1;
-    next
+    used + 1
 }
 
 fn end_line(line: &[u8], out: &mut [u8], places: Places) -> Places {
@@ -92,14 +87,18 @@ fn end_line(line: &[u8], out: &mut [u8], places: Places) -> Places {
     if line.len() < used {
         return places;
     }
-    let mut next = places;
+    let mut next = answer_line(&line[0..used], out, places);
     next.used = 0;
+    next
+}
+
+fn answer_line(line: &[u8], out: &mut [u8], places: Places) -> Places {
     if places.known {
-        let tally = compare::take_line(&line[0..used], out, places.tally);
-        next.tally = tally;
-        return next;
+        return compare::take_line(line, out, places);
     }
-    let written = answer::write_line(false, &line[0..used], out, places.waiting);
-    next.waiting = output::put_byte(b'\n', out, written);
+    let written = answer::write_line(false, line, out, places.waiting);
+    let end = forms::put_form(forms::NEWLINE, [0; 7], out, written);
+    let mut next = places;
+    next.waiting = end;
     next
 }

@@ -1,15 +1,12 @@
 // Answers lines: a rule a line, in the words of docs/LINES.md. The answers are written; or they are known, stand behind the rules and
 // are compared.
+mod alike;
 mod answer;
 mod chain;
 mod compare;
-mod entries;
 mod input;
-mod output;
 mod parts;
-mod show;
-mod text;
-mod words;
+mod stop;
 
 ghost use mathlib.Core.Path.{_≡_};
 

@@ -8,10 +8,11 @@ use Rattle.answering.proofs.chain.put_instants.Statement.{statement}
 use Rattle.answering.proofs.chain.put_instants.Tie as tie
 
 abbrev Inv-loop : tie.InvT-loop
-Inv-loop buffer handed out₀ waiting now₀ i₀ t7 i-end out now i = (i ≤ i-end) × (i-end ≤ length buffer) × (length out ≡ length out₀)
+Inv-loop buffer handed out₀ waiting now₀ i₀ i-end out now i =
+    (i ≤ i-end) × (i-end ≤ length buffer) × (length out ≡ length out₀)
 
 abbrev μ-loop : tie.MeasureT-loop
-μ-loop buffer handed out₀ waiting now₀ i₀ t7 i-end out now i = i-end - i
+μ-loop buffer handed out₀ waiting now₀ i₀ i-end out now i = i-end - i
 
 loop-holds : tie.Need-loop-holds Inv-loop μ-loop
 loop-holds c = search needs
@@ -22,17 +23,11 @@ same-length c = search needs
 returns : tie.Need-returns Inv-loop μ-loop
 returns c = search needs
 
-slice-aggregate-put-form : tie.Need-slice-aggregate-put-form Inv-loop μ-loop
-slice-aggregate-put-form c = search needs
+mul-t9 : tie.Need-mul-t9 Inv-loop μ-loop
+mul-t9 c = search needs
 
-mul-t13 : tie.Need-mul-t13 Inv-loop μ-loop
-mul-t13 c = search needs
-
-shared-slice-read-t15 : tie.Need-shared-slice-read-t15 Inv-loop μ-loop
-shared-slice-read-t15 c = search needs
-
-slice-aggregate-put-form-2 : tie.Need-slice-aggregate-put-form-2 Inv-loop μ-loop
-slice-aggregate-put-form-2 c = search needs
+shared-slice-read-t11 : tie.Need-shared-slice-read-t11 Inv-loop μ-loop
+shared-slice-read-t11 c = search needs
 
 put-form-requires : tie.Need-put-form-requires Inv-loop μ-loop
 put-form-requires c κs = search needs
@@ -61,10 +56,8 @@ put-instants-spec =
     loop-holds
     same-length
     returns
-    slice-aggregate-put-form
-    mul-t13
-    shared-slice-read-t15
-    slice-aggregate-put-form-2
+    mul-t9
+    shared-slice-read-t11
     put-form-requires
     add-i
     loop-less
