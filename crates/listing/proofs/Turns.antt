@@ -56,7 +56,8 @@ use Rattle.walks.specs.declared.rrule_iter.Why.{Why}
 use Rattle.walks.specs.declared.rrule_iter.Held.{Held}
 use Rattle.walks.specs.declared.rrule_iter.Bounds.{Bounds}
 use Rattle.walks.specs.declared.rrule_iter.Walked.{Walked}
-use Rattle.walks.specs.Walks.{Ready, boundOf, givenBy, nowOf, walkedBy, tabled}
+use Rattle.walks.specs.Walks.{boundOf, givenBy, nowOf, walkedBy, tabled}
+use Rattle.passing.specs.Passing.{Ready}
 use Rattle.walks.proofs.ByBounds.{walk-by-bounds}
 use Rattle.plans.specs.declared.plan.Plan.{Plan}
 use Rattle.plans.specs.declared.plan.Shape.{Shape}

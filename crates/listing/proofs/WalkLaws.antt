@@ -26,11 +26,14 @@ use Rattle.walks.specs.declared.rrule_iter.Held.{Held}
 use Rattle.walks.specs.declared.rrule_iter.Walked.{Walked}
 use Rattle.walks.specs.declared.rrule_iter.Bounds.{Bounds}
 use Rattle.walks.specs.declared.rrule_iter.Frame.{Frame}
-use Rattle.walks.specs.Walks.{givenBy, nowOf, walkedBy, tabled, secondAt, walkFrom, daysWalk, placesWalk, Framed, Ready}
+use Rattle.walks.specs.Walks.{givenBy, nowOf, walkedBy, tabled, secondAt, walkFrom, Framed, Timely}
+use Rattle.crossing.specs.Crossing.{daysWalk}
+use Rattle.chosen.specs.Chosen.{placesWalk}
 use Rattle.rule.proofs.GivenLaws.{neither}
-use Rattle.walks.specs.Passing.{passedDays, Timely}
-use Rattle.walks.proofs.Passing.{passed-holds, passed-walks}
-use Rattle.walks.proofs.Walkable.{is-walkable, days-walked, places-walked}
+use Rattle.passing.specs.Passing.{Ready, passedDays}
+use Rattle.passing.proofs.Passing.{passed-holds, passed-walks}
+use Rattle.crossing.proofs.Walkable.{is-walkable, days-walked}
+use Rattle.chosen.proofs.Walkable.{places-walked}
 use Rattle.opening.specs.Opening.{secondKept}
 use Rattle.settling.specs.declared.rrule_iter.Settled.{Settled}
 use Rattle.settling.specs.Settling.{answerOf, movedTo, settledThrough, settled}

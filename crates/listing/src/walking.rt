@@ -1,19 +1,20 @@
 // The walk over a period that is opened.
+use chosen::rrule_iter::walk_places;
+use crossing::rrule_iter::walk_days;
 use opening::period::Period;
+use passing::rrule_iter::pass_days;
 use walks::rrule_iter::Bounds;
 use walks::rrule_iter::Frame;
 use walks::rrule_iter::Held;
 use walks::rrule_iter::Walked;
 use walks::rrule_iter::Why;
-use walks::rrule_iter::pass_days;
-use walks::rrule_iter::walk_days;
-use walks::rrule_iter::walk_places;
 ghost use mathlib.Core.Path.{_≡_};
 ghost use Prim.Native.Nat.{_-_};
 ghost use Rattle.machine.specs.declared.State.{State};
 ghost use Rattle.machine.specs.Compute.{walk};
-ghost use Rattle.walks.specs.Walks.{Framed, Ready, givenBy, nowOf, walkedBy, tabled, daysWalk};
-ghost use Rattle.walks.specs.Passing.{Timely};
+ghost use Rattle.walks.specs.Walks.{Framed, Timely, givenBy, nowOf, walkedBy, tabled};
+ghost use Rattle.passing.specs.Passing.{Ready};
+ghost use Rattle.crossing.specs.Crossing.{daysWalk};
 ghost use Rattle.opening.specs.Opening.{secondKept};
 ghost use Rattle.opened.specs.Opened.{Sound};
 

@@ -26,8 +26,7 @@ use Rattle.clocks.specs.Clocks.{clockIn, setsIn}
 use Rattle.days.specs.Filters.{ruleLists}
 use Rattle.days.specs.DaySets.{daySet}
 use Rattle.years.specs.Info.{askedOf, ruleInfo}
-use Rattle.walks.specs.Passing.{Timely}
-use Rattle.walks.specs.Walks.{Framed, tabled}
+use Rattle.walks.specs.Walks.{Framed, Timely, tabled}
 use Rattle.opening.specs.declared.period.Period.{Period}
 use Rattle.fitting.specs.Fitting.{isFit}
 use Rattle.units.specs.Years.{isInYear}

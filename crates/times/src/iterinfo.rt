@@ -76,7 +76,7 @@ pub fn time_at(freq: Frequency, begins: u32, counts: Counts, lists: &[u8; 144], 
 }
 
 // How often a count goes into a number, with no division where it is plain; 0 where the count is 0.
-fn quotient(number: u32, count: u32) -> u32
+pub fn quotient(number: u32, count: u32) -> u32
     ensures { λ r. ⌜ r ≡ number / count ⌝ }
 {
     if number < count {

@@ -1,10 +1,5 @@
 pub mod ByBounds
-pub mod Cases
-pub mod Keeps
 pub mod OneAnswer
-pub mod PassLaws
-pub mod Passing
-pub mod ReadBack
 pub mod SecondLaws
 pub mod Walkable
 pub mod WalkLaws

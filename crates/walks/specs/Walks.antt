@@ -1,17 +1,16 @@
 -- The walk over a period's candidates, as code keeps it: in numbers.
 -- Assumes nothing.
-use Prim.Native.Nat.{ℕ, zero, suc, _+_, _-_, _*_, _/_, _%_, _≤_, _<_, _^_}
-use mathlib.Core.Path.{_≡_}
+use Prim.Native.Nat.{ℕ, zero, suc, _+_, _-_, _*_, _/_, _%_, _≤_, _<_}
 use mathlib.Core.Bool.{Bool, true, _&&_}
 use mathlib.Core.List.{List, [], _∷_}
-use lib.ListN.{length, getD}
+use lib.ListN.{getD}
 use lib.Dec.{leb, ltb}
 use Rattle.calendar.specs.Calendar.{if_then_else_}
 use Rattle.machine.specs.declared.Cause.{Cause}
 use Rattle.machine.specs.declared.State.{State}
 use Rattle.machine.specs.declared.Stop.{Stop}
 use Rattle.machine.specs.declared.Cursor.{Cursor}
-use Rattle.machine.specs.Given.{Bound, Bound.absent, Bound.present, Move, Move.NoTick, Given}
+use Rattle.machine.specs.Given.{Bound, Bound.absent, Bound.present, Move.NoTick, Given}
 use Rattle.machine.specs.Run.{Now}
 use Rattle.machine.specs.Compute as compute
 use Rattle.rule.specs.declared.rrule.Until.{Until}
@@ -76,18 +75,13 @@ pub record Framed (f : Frame) : Type 0 where
   pub times : f .times ≤ 86400
   pub first : f .first ≤ 3652059
 
--- A call is ready to walk: the start is not before 1970, the buffer has room for what was handed out, and the count of all is far from its limit.
-pub record Ready (b : Bounds) (h : Held) (buffer : List ℕ) : Type 0 where
-  pub start : 62135596800 ≤ b .start
-  pub handed : h .handed ≤ length buffer
-  pub number : h .cursor .number < 2 ^ 63
-
--- The same as tests. That of a frame is wider, and cheap: up to the next powers of two no sum wraps either.
+-- The same as a test, which is wider, and cheap: up to the next powers of two no sum wraps either.
 unfoldable pub isFramed : Frame → Bool
 isFramed f = leb (f .days) 373 && (ltb (f .times) 131072 && ltb (f .first) 4194304)
 
-unfoldable pub isReady : Bounds → Held → (room : ℕ) → Bool
-isReady b h room = leb 62135596800 (b .start) && (leb (h .handed) room && ltb (h .cursor .number) 9223372036854775808)
+-- the same frame in the year that begins on another day
+abbrev pub inYear : Frame → (first : ℕ) → Frame
+inYear f first = record { freq = f .freq; begins = f .begins; counts = f .counts; first = first; days = f .days; times = f .times }
 
 -- time number t of day number d, as a second
 unfoldable pub secondOn : Frame → (days lists : List ℕ) → (d t : ℕ) → ℕ
@@ -117,28 +111,6 @@ tabled f i (suc n) = f i ∷ tabled f (i + 1) n
 unfoldable pub walkFrom : Bounds → (ℕ → ℕ) → ℕ → Held → List ℕ → compute.Walked ℕ
 walkFrom b f n h buffer = compute.walk (givenBy b) (tabled f (h .cursor .place) (n - h .cursor .place)) (nowOf State.Running h buffer)
 
--- whether a walk may be: over such a frame, by a call that is ready
-abbrev pub isWalkable : Frame → Bounds → Held → List ℕ → Bool
-isWalkable f b h buffer = isFramed f && isReady b h (length buffer)
-
--- The walk over days and times, and the walk over the places of kept candidates, n of them. Where a walk may not be, or more places are told than
--- there are, it comes through at once, and nothing changes.
-abbrev pub daysWalk : Frame → Bounds → Held → (days lists buffer : List ℕ) → compute.Walked ℕ
-daysWalk f b h days lists buffer =
-    if isWalkable f b h buffer then walkFrom b (secondAt f days lists) (f .days * f .times) h buffer else compute.through (nowOf State.Running h buffer)
-
-abbrev pub placesWalk : Frame → Bounds → Held → ℕ → (places days lists buffer : List ℕ) → compute.Walked ℕ
-placesWalk f b h n places days lists buffer =
-    if leb n 732 && isWalkable f b h buffer then walkFrom b (secondChosen f days lists places) n h buffer else compute.through (nowOf State.Running h buffer)
-
--- What a walk from h over n candidates keeps to: the period and the moves stay, and so does the buffer's length; as many are numbered as handed
--- out, and none without room; the place rises, and stays among the n candidates.
-pub record Keeps (n : ℕ) (h : Held) (buffer : List ℕ) (r : Held) (last : List ℕ) : Type 0 where
-  pub k : r .cursor .k ≡ h .cursor .k
-  pub moves : r .moves ≡ h .moves
-  pub long : length last ≡ length buffer
-  pub more : h .handed ≤ r .handed
-  pub room : r .handed ≤ length last
-  pub number : r .cursor .number + h .handed ≡ h .cursor .number + r .handed
-  pub on : h .cursor .place ≤ r .cursor .place
-  pub within : h .cursor .place ≤ n → r .cursor .place ≤ n
+-- every time of a period is within its day
+abbrev pub Timely : Frame → List ℕ → Type 0
+Timely f lists = (t : ℕ) → t < f .times → timeAt (f .freq) (f .begins) (f .counts) lists t < 86400

@@ -1,2 +1,2 @@
-// The walk over a period's candidates.
+// A period's candidates, and what a walk over them is.
 pub mod rrule_iter;

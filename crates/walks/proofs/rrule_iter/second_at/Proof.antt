@@ -4,6 +4,7 @@ use mathlib.Core.Path.{_≡_, refl, sym, ap, _∙_}
 use native.Mathlib.Nat.{div-mul-le-self}
 use native.Mathlib.Omega.{arith}
 use borrow.Author.Needs.{needs}
+use Rattle.walks.specs.Walks.{inYear}
 use Rattle.walks.proofs.SecondLaws.{second-by}
 use Rattle.walks.proofs.rrule_iter.second_at.Statement.{statement}
 use Rattle.walks.proofs.rrule_iter.second_at.Tie as tie
@@ -28,7 +29,7 @@ second-on-requires c κs = search needs
 returns : tie.Need-returns
 returns c =
     let a = c .before .before .before .args in
-    c .second-on .ensures ∙ second-by (a .frame) (a .days .now) (a .lists .now) (a .number) _ (c .before .before .quotient .ensures)
+    c .second-on .ensures ∙ second-by (inYear (a .frame) (a .first)) (a .days .now) (a .lists .now) (a .number) _ (c .before .before .quotient .ensures)
 
 pub second-at-spec : {M : Type 1} → statement M
 second-at-spec =

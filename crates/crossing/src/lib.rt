@@ -1,0 +1,2 @@
+// The walk over a period's candidates.
+pub mod rrule_iter;

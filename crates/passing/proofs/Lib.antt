@@ -1,0 +1,4 @@
+pub mod Cases
+pub mod OneAnswer
+pub mod PassLaws
+pub mod Passing
