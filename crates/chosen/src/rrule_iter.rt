@@ -39,7 +39,7 @@ pub fn walk_places(
             why = Why::Full;
             break;
         }
-        let second = second_at(frame, frame.first as u32, days, lists, places[i]);
+        let second = second_at(frame, days, lists, places[i]);
         if is_late(bounds, second) {
             why = Why::Until;
             break;

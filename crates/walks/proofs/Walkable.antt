@@ -1,15 +1,16 @@
 -- A frame of which no sum wraps: the test in words, and what its candidates then are.
 -- Assumes nothing.
-use Prim.Native.Nat.{ℕ, _≤_, _<_}
-use mathlib.Core.Path.{_≡_}
+use Prim.Native.Nat.{ℕ, _%_, _≤_, _<_}
+use mathlib.Core.Path.{_≡_, ap}
 use mathlib.Core.Bool.{true}
 use mathlib.Core.List.{List}
 use lib.Dec.{leb, ltb}
+use native.Mathlib.Nat.{mod-eq-of-lt}
 use native.Mathlib.Omega.{arith}
 use borrow.Author.Tests.{leb-true, le-leb, ltb-true, lt-ltb}
 use Rattle.rule.proofs.FillLaws.{both}
 use Rattle.walks.specs.declared.rrule_iter.Frame.{Frame}
-use Rattle.walks.specs.Walks.{isFramed, Framed, secondAt, candidateAt}
+use Rattle.walks.specs.Walks.{isFramed, Framed, inYear, secondAt, candidateAt}
 
 -- a frame that passes the test
 pub record Small (f : Frame) : Type 0 where
@@ -32,3 +33,11 @@ is-framed f w = rw (le-leb _ _ (w .days), lt-ltb (f .times) 131072 (omega (arith
 pub candidate-told : (f : Frame) (days lists : List ℕ) (j : ℕ) → Framed f → candidateAt f days lists j ≡ secondAt f days lists j
 unfolding candidateAt
 candidate-told f days lists j w = rw (is-framed f w, candidateAt)
+
+-- its year's first day has no more than 32 bits
+pub year-kept : (f : Frame) (days lists : List ℕ) (j : ℕ) → isFramed f ≡ true
+    → secondAt (inYear f (f .first % 4294967296)) days lists j ≡ secondAt f days lists j
+year-kept f days lists j e =
+    let p = framed-told f e in
+    let l : f .first < 4294967296 = omega (arith, p .first) in
+    ap (λ (x : ℕ). secondAt (inYear f x) days lists j) (mod-eq-of-lt l)

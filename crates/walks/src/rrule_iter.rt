@@ -7,7 +7,7 @@ use times::iterinfo::Counts;
 use times::iterinfo::quotient;
 use times::iterinfo::time_at;
 ghost use mathlib.Core.Path.{_≡_};
-ghost use Prim.Native.Nat.{_+_, _*_, _<_, _^_};
+ghost use Prim.Native.Nat.{_+_, _*_, _%_, _<_, _^_};
 ghost use lib.ListN.{getD};
 ghost use Rattle.walks.specs.Walks.{Bytes, inYear, isFramed, secondOn, secondAt, candidateAt};
 
@@ -94,10 +94,11 @@ pub fn second_on(
     midnight + time_at(freq, frame.begins, frame.counts, lists, time)
 }
 
-// The candidate of this number, as a second.
-pub fn second_at(frame: Frame, first: u32, days: &[u16; 373], lists: &[u8; 144], number: u32) -> u64
-    ensures { λ r. ⌜ r ≡ secondAt (inYear frame first) (now (days .entry)) (now (lists .entry)) number ⌝ }
+// The candidate of this number, as a second. Of the year's first day 32 bits are read, so that no sum wraps.
+pub fn second_at(frame: Frame, days: &[u16; 373], lists: &[u8; 144], number: u32) -> u64
+    ensures { λ r. ⌜ r ≡ secondAt (inYear frame (frame .first % 4294967296)) (now (days .entry)) (now (lists .entry)) number ⌝ }
 {
+    let first = (frame.first % 4294967296) as u32;
     let day = quotient(number, frame.times);
     second_on(
         frame,
@@ -116,5 +117,5 @@ pub fn candidate_at(frame: Frame, days: &[u16; 373], lists: &[u8; 144], number: 
     if !is_framed(frame) {
         return 0;
     }
-    second_at(frame, frame.first as u32, days, lists, number)
+    second_at(frame, days, lists, number)
 }

@@ -12,10 +12,10 @@ use borrow.Author.Tests.{leb-true, not-true, not-false}
 use Rattle.machine.specs.Given.{above}
 use Rattle.rule.proofs.FillLaws.{both}
 use Rattle.walks.specs.declared.rrule_iter.Why.{Why}
-use Rattle.walks.specs.Walks.{boundOf, secondChosen, walkFrom}
+use Rattle.walks.specs.Walks.{boundOf, isFramed, secondChosen, walkFrom}
 use Rattle.walks.proofs.SecondLaws.{second-chosen}
 use Rattle.walks.proofs.WalkLaws.{stops, rest-over, rest-pass}
-use Rattle.walks.proofs.Walkable.{Small}
+use Rattle.walks.proofs.Walkable.{year-kept}
 use Rattle.passing.specs.Passing.{Ready}
 use Rattle.crossing.specs.Crossing.{isWalkable}
 use Rattle.crossing.proofs.RestLaws.{rest-full, rest-until, rest-count, rest-hand}
@@ -47,10 +47,8 @@ walkable c =
     walkable-by (a .frame) (a .bounds) (a .held) (a .buffer .now) _ _ true (c .before .before .is-framed .ensures) (c .before .is-ready .ensures)
     (both (leb (a .kept) 732) _ (not-false _ (c .if1 .left)) .1)
 
-small : (c : tie.Else1 Inv-loop μ-loop) → Small (c .before .before .before .before .args .frame)
-small c =
-    let a = c .before .before .before .before .args in
-    walkable-told (a .frame) (a .bounds) (a .held) (a .buffer .now) (walkable c) .0
+framed : (c : tie.Else1 Inv-loop μ-loop) → isFramed (c .before .before .before .before .args .frame) ≡ true
+framed c = both (isFramed (c .before .before .before .before .args .frame)) _ (walkable c) .0
 
 ready : (c : tie.Else1 Inv-loop μ-loop) →
     let a = c .before .before .before .before .args in
@@ -72,17 +70,19 @@ free c e = omega (arith, e, c .if2 .left)
 
 -- the candidate in hand, as the second that the code has
 in-hand : (c : tie.After-second-at Inv-loop μ-loop) →
-    let l = c .before .before .before .before .before in
+    let l = c .before .before .before .before in
     let a = l .before .before .before .before .before .before .args in
     c .second-at .result ≡ secondChosen (a .frame) (a .days .now) (a .lists .now) (a .places .now) (l .loop .at .cursor .place)
 in-hand c =
-    let l = c .before .before .before .before .before in
-    second-chosen _ _ _ _ _ (l .loop .i) _ (l .loop .inv .1) (c .second-at .ensures)
+    let l = c .before .before .before .before in
+    let a = l .before .before .before .before .before .before .args in
+    second-chosen _ _ _ _ _ (l .loop .i) _ (l .loop .inv .1)
+    (c .second-at .ensures ∙ year-kept (a .frame) (a .days .now) (a .lists .now) _ (framed (l .before .before)))
 
 -- it is not above UNTIL
 on-time : (c : tie.Else3 Inv-loop μ-loop) →
     let k = c .before .before in
-    above (boundOf (k .before .before .before .before .before .before .before .before .before .before .before .args .bounds .until)) (k .second-at .result) ≡ false
+    above (boundOf (k .before .before .before .before .before .before .before .before .before .before .args .bounds .until)) (k .second-at .result) ≡ false
 on-time c = sym (c .before .is-late .ensures) ∙ c .if3 .left
 
 -- the buffer is short enough that neither count can wrap
@@ -119,14 +119,11 @@ loop-holds : tie.Need-loop-holds Inv-loop μ-loop
 loop-holds c =
     (refl, refl, search needs, search needs, ready (c .before) .handed, refl, refl, refl)
 
-cast-second-at : tie.Need-cast-second-at Inv-loop μ-loop
-cast-second-at c = omega (arith, small (c .before .before .before .before .before) .first)
-
 mul-second-at : tie.Need-mul-second-at Inv-loop μ-loop
-mul-second-at c = omega (arith, few (c .before .before .before .before .before))
+mul-second-at c = omega (arith, few (c .before .before .before .before))
 
 element-copy-out-second-at : tie.Need-element-copy-out-second-at Inv-loop μ-loop
-element-copy-out-second-at c = omega (arith, few (c .before .before .before .before .before))
+element-copy-out-second-at c = omega (arith, few (c .before .before .before .before))
 
 second-at-requires : tie.Need-second-at-requires Inv-loop μ-loop
 second-at-requires c κs = search needs
@@ -135,7 +132,7 @@ is-late-requires : tie.Need-is-late-requires Inv-loop μ-loop
 is-late-requires c κs = search needs
 
 add-place : tie.Need-add-place Inv-loop μ-loop
-add-place c = omega (arith, few (c .before .before .before .before .before .before .before .before .before .before))
+add-place c = omega (arith, few (c .before .before .before .before .before .before .before .before .before))
 
 add-i : tie.Need-add-i Inv-loop μ-loop
 add-i c = search needs
@@ -146,7 +143,7 @@ loop-less c = search needs
 loop-again : tie.Need-loop-again Inv-loop μ-loop
 loop-again c =
     let k = c .before .before .before .before .before .before in
-    let e = k .before .before .before in
+    let e = k .before .before in
     let l = e .before .before in (
       l .loop .inv .0,
       omega arith,
@@ -161,21 +158,21 @@ loop-again c =
 
 sub-buffer : tie.Need-sub-buffer Inv-loop μ-loop
 sub-buffer c =
-    let l = c .before .before .before .before .before .before .before .before .before .before .before in
+    let l = c .before .before .before .before .before .before .before .before .before .before in
     omega (arith, c .if4 .left, ready (l .before .before) .start)
 
 mul-buffer : tie.Need-mul-buffer Inv-loop μ-loop
-mul-buffer c = omega (arith, room (c .before .before .before .before .before .before .before .before .before .before .before))
+mul-buffer c = omega (arith, room (c .before .before .before .before .before .before .before .before .before .before))
 
 slice-write-buffer : tie.Need-slice-write-buffer Inv-loop μ-loop
 slice-write-buffer c = search needs
 
 add-number : tie.Need-add-number Inv-loop μ-loop
-add-number c = record { fits = omega (arith, number-small (c .before .before .before .before .before .before .before .before .before .before .before .before)) }
+add-number c = record { fits = omega (arith, number-small (c .before .before .before .before .before .before .before .before .before .before .before)) }
 
 add-at : tie.Need-add-at Inv-loop μ-loop
 add-at c =
-    let l = c .before .before .before .before .before .before .before .before .before .before .before .before .before .before in
+    let l = c .before .before .before .before .before .before .before .before .before .before .before .before .before in
     record { fits = omega (arith, handed-small l) }
 
 is-reached-requires : tie.Need-is-reached-requires Inv-loop μ-loop
@@ -191,7 +188,7 @@ loop-again-2 : tie.Need-loop-again-2 Inv-loop μ-loop
 loop-again-2 c =
     let t = c .before .before .before .before .before in
     let k = t .before .before .before .before .before .before in
-    let e = k .before .before .before in
+    let e = k .before .before in
     let l = e .before .before in (
       l .loop .inv .0,
       omega arith,
@@ -227,7 +224,7 @@ same-length-3 c = search needs
 returns-4 : tie.Need-returns-4 Inv-loop μ-loop
 returns-4 c =
     let k = c .before .before in
-    let e = k .before .before .before in
+    let e = k .before .before in
     let l = e .before .before in
     (sym (whole l ∙ rest-until _ _ _ _ _ (omega arith) _ (in-hand k) (free e) (sym (c .before .is-late .ensures) ∙ c .if3 .taken)), l .loop .inv .7)
 
@@ -238,7 +235,7 @@ returns-5 : tie.Need-returns-5 Inv-loop μ-loop
 returns-5 c =
     let t = c .before .before .before .before .before in
     let k = t .before .before .before .before .before .before in
-    let e = k .before .before .before in
+    let e = k .before .before in
     let l = e .before .before in (
       sym
           (whole l
@@ -258,7 +255,6 @@ walk-places-spec =
     returns
     cast-i
     loop-holds
-    cast-second-at
     mul-second-at
     element-copy-out-second-at
     second-at-requires

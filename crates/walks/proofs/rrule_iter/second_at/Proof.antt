@@ -1,6 +1,7 @@
 -- `walks::rrule_iter::second_at` meets its contract.
 -- Assumes nothing.
 use mathlib.Core.Path.{_≡_, refl, sym, ap, _∙_}
+use Prim.Native.Nat.{_%_}
 use native.Mathlib.Nat.{div-mul-le-self}
 use native.Mathlib.Omega.{arith}
 use borrow.Author.Needs.{needs}
@@ -8,6 +9,9 @@ use Rattle.walks.specs.Walks.{inYear}
 use Rattle.walks.proofs.SecondLaws.{second-by}
 use Rattle.walks.proofs.rrule_iter.second_at.Statement.{statement}
 use Rattle.walks.proofs.rrule_iter.second_at.Tie as tie
+
+cast-first : tie.Need-cast-first
+cast-first c = omega arith
 
 quotient-requires : tie.Need-quotient-requires
 quotient-requires c κs = search needs
@@ -17,7 +21,7 @@ cast-second-on c = search needs
 
 mul-second-on : tie.Need-mul-second-on
 mul-second-on c =
-    let a = c .before .before .args in
+    let a = c .before .before .before .args in
     rw (c .before .quotient .ensures) (omega (arith, div-mul-le-self (a .number) (a .frame .times)))
 
 sub-second-on : tie.Need-sub-second-on
@@ -28,13 +32,14 @@ second-on-requires c κs = search needs
 
 returns : tie.Need-returns
 returns c =
-    let a = c .before .before .before .args in
-    c .second-on .ensures ∙ second-by (inYear (a .frame) (a .first)) (a .days .now) (a .lists .now) (a .number) _ (c .before .before .quotient .ensures)
+    let a = c .before .before .before .before .args in
+    c .second-on .ensures ∙ second-by (inYear (a .frame) (a .frame .first % 4294967296)) (a .days .now) (a .lists .now) (a .number) _ (c .before .before .quotient .ensures)
 
 pub second-at-spec : {M : Type 1} → statement M
 second-at-spec =
     tie.close
     (tie.spec
+    cast-first
     quotient-requires
     cast-second-on
     mul-second-on
