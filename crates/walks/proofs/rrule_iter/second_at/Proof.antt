@@ -33,7 +33,8 @@ second-on-requires c κs = search needs
 returns : tie.Need-returns
 returns c =
     let a = c .before .before .before .before .args in
-    c .second-on .ensures ∙ second-by (inYear (a .frame) (a .frame .first % 4294967296)) (a .days .now) (a .lists .now) (a .number) _ (c .before .before .quotient .ensures)
+    c .second-on .ensures
+    ∙ second-by (inYear (a .frame) (a .frame .first % 4294967296)) (a .days .now) (a .lists .now) (a .number) _ (c .before .before .quotient .ensures)
 
 pub second-at-spec : {M : Type 1} → statement M
 second-at-spec =
