@@ -12,6 +12,12 @@ use Rattle.basics.proofs.rrule.frequency_number.Kinds as frequency-numb
 use Rattle.basics.proofs.rrule.frequency_number.Reads as frequency-number
 use Rattle.basics.proofs.rrule.refusal_number.Kinds as refusal-number-kinds
 use Rattle.basics.proofs.rrule.refusal_number.Reads as refusal-number
+use Rattle.basics.proofs.rrule.has_nought.Kinds as has-nought-kinds
+use Rattle.basics.proofs.rrule.has_nought.Reads as has-nought
+use Rattle.basics.proofs.rrule.count_and_until.Kinds as count-and-until-kinds
+use Rattle.basics.proofs.rrule.count_and_until.Reads as count-and-until
+use Rattle.basics.proofs.rrule.is_misplaced.Kinds as is-misplaced-kinds
+use Rattle.basics.proofs.rrule.is_misplaced.Reads as is-misplaced
 use Rattle.basics.proofs.rrule.fresh.Kinds as fresh-kinds
 use Rattle.basics.proofs.rrule.fresh.Reads as fresh
 
@@ -23,6 +29,15 @@ refused-has-one κs a x y e f = one-answer
 
 pub refusal-number-has-one : Determines 0 refusal-number-kinds.ps refusal-number-kinds.r refusal-number.Post
 refusal-number-has-one κs a x y e f = one-answer
+
+pub has-nought-has-one : Determines 0 has-nought-kinds.ps has-nought-kinds.r has-nought.Post
+has-nought-has-one κs a x y e f = one-answer
+
+pub count-and-until-has-one : Determines 0 count-and-until-kinds.ps count-and-until-kinds.r count-and-until.Post
+count-and-until-has-one κs a x y e f = one-answer
+
+pub is-misplaced-has-one : Determines 0 is-misplaced-kinds.ps is-misplaced-kinds.r is-misplaced.Post
+is-misplaced-has-one κs a x y e f = one-answer
 
 pub fresh-has-one : Determines 0 fresh-kinds.ps fresh-kinds.r fresh.Post
 fresh-has-one κs a x y e f = one-answer
@@ -42,6 +57,15 @@ refused-asks-nothing κs a = nothing-asked
 
 pub refusal-number-asks-nothing : AsksNothing 0 refusal-number-kinds.ps refusal-number.requires
 refusal-number-asks-nothing κs a = nothing-asked
+
+pub has-nought-asks-nothing : AsksNothing 0 has-nought-kinds.ps has-nought.requires
+has-nought-asks-nothing κs a = nothing-asked
+
+pub count-and-until-asks-nothing : AsksNothing 0 count-and-until-kinds.ps count-and-until.requires
+count-and-until-asks-nothing κs a = nothing-asked
+
+pub is-misplaced-asks-nothing : AsksNothing 0 is-misplaced-kinds.ps is-misplaced.requires
+is-misplaced-asks-nothing κs a = nothing-asked
 
 pub fresh-asks-nothing : AsksNothing 0 fresh-kinds.ps fresh.requires
 fresh-asks-nothing κs a = nothing-asked

@@ -2,7 +2,7 @@
 -- Assumes nothing.
 use mathlib.Core.Path.{_≡_, refl}
 use mathlib.Core.List.{[], _∷_}
-use lib.IntN.{pos}
+use lib.IntN.{pos, negsuc}
 use Rattle.machine.specs.declared.Cause.{Cause}
 use Rattle.machine.specs.declared.State.{State}
 use Rattle.machine.specs.declared.Fault.{Fault}
@@ -129,6 +129,55 @@ bad-record-16 :
 unfolding play playFrom onGiven onFilled runs after walk atCandidate counted moveOn leap newYear daysBeforeMonth
 bad-record-16 = refl
 
+-- DAILY;INTERVAL=0: 20
+bad-record-17 :
+    onFilled (raw 3 0 Count.Absent Until.Absent 0 1704067200 (rawLists [] [] [] [] [] [] [] [] [] [])) (at State.Running 0 0 0) (of 1 1)
+    ≡ told (Stop.Refused Fault.Record) (at State.Running 0 0 0) 0 0 (100 ∷ [])
+unfolding play playFrom onGiven onFilled runs after walk atCandidate counted moveOn leap newYear daysBeforeMonth
+bad-record-17 = refl
+
+-- the same with an ended cursor that names Interval: 20
+bad-record-18 :
+    onFilled (raw 3 0 Count.Absent Until.Absent 0 1704067200 (rawLists [] [] [] [] [] [] [] [] [] [])) (at (State.Ended Cause.Interval) 0 0 0) (of 1 1)
+    ≡ told (Stop.Refused Fault.Record) (at (State.Ended Cause.Interval) 0 0 0) 0 0 (100 ∷ [])
+unfolding play playFrom onGiven onFilled runs after walk atCandidate counted moveOn leap newYear daysBeforeMonth
+bad-record-18 = refl
+
+-- DAILY;COUNT=0: 20
+bad-record-19 :
+    onFilled (raw 3 1 (Count.Times 0) Until.Absent 0 1704067200 (rawLists [] [] [] [] [] [] [] [] [] [])) (at State.Running 0 0 0) (of 1 1)
+    ≡ told (Stop.Refused Fault.Record) (at State.Running 0 0 0) 0 0 (100 ∷ [])
+unfolding play playFrom onGiven onFilled runs after walk atCandidate counted moveOn leap newYear daysBeforeMonth
+bad-record-19 = refl
+
+-- DAILY;COUNT=2;UNTIL=2024-01-01: 20
+bad-record-20 :
+    onFilled (raw 3 1 (Count.Times 2) (Until.At 1704067200) 0 1704067200 (rawLists [] [] [] [] [] [] [] [] [] [])) (at State.Running 0 0 0) (of 1 1)
+    ≡ told (Stop.Refused Fault.Record) (at State.Running 0 0 0) 0 0 (100 ∷ [])
+unfolding play playFrom onGiven onFilled runs after walk atCandidate counted moveOn leap newYear daysBeforeMonth
+bad-record-20 = refl
+
+-- HOURLY;BYWEEKNO=1: 20
+bad-record-21 :
+    onFilled (raw 4 1 Count.Absent Until.Absent 0 1704067200 (rawLists [] [] [] (pos 1 ∷ []) [] [] [] [] [] [])) (at State.Running 0 0 0) (of 1 1)
+    ≡ told (Stop.Refused Fault.Record) (at State.Running 0 0 0) 0 0 (100 ∷ [])
+unfolding play playFrom onGiven onFilled runs after walk atCandidate counted moveOn leap newYear daysBeforeMonth
+bad-record-21 = refl
+
+-- MONTHLY;BYYEARDAY=1: 20
+bad-record-22 :
+    onFilled (raw 1 1 Count.Absent Until.Absent 0 1704067200 (rawLists [] [] (pos 1 ∷ []) [] [] [] [] [] [] [])) (at State.Running 0 0 0) (of 1 1)
+    ≡ told (Stop.Refused Fault.Record) (at State.Running 0 0 0) 0 0 (100 ∷ [])
+unfolding play playFrom onGiven onFilled runs after walk atCandidate counted moveOn leap newYear daysBeforeMonth
+bad-record-22 = refl
+
+-- WEEKLY;BYMONTHDAY=-1: 20
+bad-record-23 :
+    onFilled (raw 2 1 Count.Absent Until.Absent 0 1704067200 (rawLists [] (negsuc 0 ∷ []) [] [] [] [] [] [] [] [])) (at State.Running 0 0 0) (of 1 1)
+    ≡ told (Stop.Refused Fault.Record) (at State.Running 0 0 0) 0 0 (100 ∷ [])
+unfolding play playFrom onGiven onFilled runs after walk atCandidate counted moveOn leap newYear daysBeforeMonth
+bad-record-23 = refl
+
 -- reading 6: the filled form of DAILY;BYSETPOS=1 is a good record
 good-record-1 :
     onFilled (raw 3 1 Count.Absent Until.Absent 0 1704067200 (rawLists [] [] [] [] [] [] [] [] [] (pos 1 ∷ []))) (at State.Running 0 0 0) (of 1 1)
@@ -149,6 +198,20 @@ good-record-3 :
     ≡ told Stop.More (at State.Running 1 1 2) 1 2 (1704067200 ∷ 1704153600 ∷ [])
 unfolding play playFrom onGiven onFilled runs after walk atCandidate counted moveOn leap newYear daysBeforeMonth
 good-record-3 = refl
+
+-- an ended cursor that names Interval comes back as given
+good-record-4 :
+    onFilled (raw 3 1 Count.Absent Until.Absent 0 1704067200 (rawLists [] [] [] [] [] [] [] [] [] [])) (at (State.Ended Cause.Interval) 7 3 9) (of 1 1)
+    ≡ told Stop.Ended (at (State.Ended Cause.Interval) 7 3 9) 0 0 (100 ∷ [])
+unfolding play playFrom onGiven onFilled runs after walk atCandidate counted moveOn leap newYear daysBeforeMonth
+good-record-4 = refl
+
+-- MONTHLY from 31 January: the month day that is filled in is no fault
+good-record-5 :
+    onFilled (raw 1 1 Count.Absent Until.Absent 0 1706659200 (rawLists [] [] [] [] [] [] [] [] [] [])) (at State.Running 0 0 0) (of 1 1)
+    ≡ told Stop.More (at State.Running 0 1 1) 0 1 (1706659200 ∷ [])
+unfolding play playFrom onGiven onFilled runs after walk atCandidate counted moveOn leap newYear daysBeforeMonth
+good-record-5 = refl
 
 -- BYDAY's two lists of different length: 5
 half-record-1 :

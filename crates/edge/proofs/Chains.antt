@@ -35,8 +35,8 @@ use Rattle.rule.specs.Run.{countOf, periods, freshOf, runOf}
 use Rattle.rule.specs.Demand.{callOf, toldBy}
 use Rattle.rule.proofs.FillKeeps.{fill-sized}
 use Rattle.rule.proofs.GoodRecords.{given-sized, good-records}
-use Rattle.rule.proofs.Demand.{interval-kept, demand-three}
-use Rattle.rule.proofs.Cursors.{lawful, nothing-at-zero}
+use Rattle.rule.proofs.Demand.{never-by-interval, demand-three}
+use Rattle.rule.proofs.Cursors.{lawful}
 use Rattle.edge.specs.Layout.{Decoded, Decoded.nothing, Decoded.holds, recordLength, cursorLength, encodeRecord, decodeRecord, causeNumber}
 use Rattle.edge.specs.Layout.{stateNumber, encodeCursor, decodeCursor}
 use Rattle.edge.specs.Edge.{Said, said, saidOf, checkSays, freshSays, Shown, shown, stopNumber, refusedShows, answerShows, shows, unreadable, runFrom, runSays}
@@ -196,6 +196,14 @@ count-state (State.Ended Cause.Until) e = absurd (omega arith)
 count-state (State.Ended Cause.NoTick) e = absurd (omega arith)
 count-state (State.Ended Cause.Range) e = absurd (omega arith)
 
+interval-state : (y : State) → stateNumber y ≡ 2 → y ≡ State.Ended Cause.Interval
+interval-state State.Running e = absurd (omega arith)
+interval-state (State.Ended Cause.Count) e = absurd (omega arith)
+interval-state (State.Ended Cause.Interval) e = refl
+interval-state (State.Ended Cause.Until) e = absurd (omega arith)
+interval-state (State.Ended Cause.NoTick) e = absurd (omega arith)
+interval-state (State.Ended Cause.Range) e = absurd (omega arith)
+
 other-state : (y : State) → 1 < stateNumber y → (cause : Cause) × (y ≡ State.Ended cause) × (cause ≡ Cause.Count → ⊥)
 other-state State.Running h = absurd (omega arith)
 other-state (State.Ended Cause.Count) h = absurd (omega arith)
@@ -260,9 +268,9 @@ module _ (w : Raw) (ok : checked w .verdict ≡ Verdict.Accepted) (calls : List 
       ⊎-elim (λ (z : runsTell e f 0 calls .cause ≡ 0). absurd (omega arith))
       (λ (z : runsTell e f 0 calls .cause ≡ stateNumber (toldBy r calls .cursor .state)). z) cause-is
 
-  lists : 1 ≤ w .interval → ListsC r (runsTell e f 0 calls)
-  lists one =
-      let l = demand-three w ok one calls in
+  lists : ListsC r (runsTell e f 0 calls)
+  lists =
+      let l = demand-three w ok calls in
       record {
         rises = subst (RisesFrom 0) (sym listed-is) (l .rises);
         only = λ u h. l .only u (subst (λ (ys : List ℕ). u ∈ ys) listed-is h);
@@ -279,7 +287,8 @@ module _ (w : Raw) (ok : checked w .verdict ≡ Verdict.Accepted) (calls : List 
   chain-listed = record {
     taken = none-refused r (checked-sized w ok) (freshOf r) calls each;
     lists = lists;
-    nothing = λ z. listed-is ∙ nothing-at-zero r (checked-good w ok) (inr (interval-kept w ok ∙ z)) calls;
+    never = λ h. never-by-interval r (checked-good w ok) calls
+        (interval-state (toldBy r calls .cursor .state) (sym (state-is (omega arith)) ∙ h));
   }
 
 pub fresh-of-checked : FreshOfChecked

@@ -10,6 +10,7 @@ use lib.Dec.{eqb}
 use lib.ListN.{length, getD}
 use borrow.Author.Tests.{eq-eqb, ne-eqb}
 use Rattle.calendar.specs.Calendar.{if_then_else_}
+use Rattle.machine.specs.declared.State.{State}
 use Rattle.machine.specs.declared.Fault.{Fault}
 use Rattle.machine.specs.declared.Stop.{Stop}
 use Rattle.machine.specs.declared.Cursor.{Cursor}
@@ -22,12 +23,13 @@ use Rattle.rule.specs.declared.rrule.Rule.{Rule}
 use Rattle.rule.specs.Refusals.{refusalNumber}
 use Rattle.rule.specs.Filling.{checked}
 use Rattle.rule.specs.Records.{yielded}
-use Rattle.rule.specs.Run.{periods, freshOf, runOf}
+use Rattle.rule.specs.Run.{periods, startIn, freshOf, runOf}
+use Rattle.rule.proofs.Cursors.{fresh-runs}
 use Rattle.edge.specs.Layout.{Decoded, Decoded.nothing, Decoded.holds, recordLength, recordVersion, encodeRecord, isRecordBytes, decodeRecord}
 use Rattle.edge.specs.Layout.{cursorLength, cursorVersion, encodeCursor, isCursorBytes, decodeCursor}
 use Rattle.edge.specs.Edge.{Said, said, saidOf, checkSays, freshFrom, freshSays, Shown, shown, shows, refusedShows, unreadable, runFrom, runSays}
 use Rattle.edge.specs.Claims.{CheckOfRefused, CheckOfAccepted, IsOther, OtherRecordRefused, OtherCursorRefused, CheckNumbers}
-use Rattle.edge.specs.Claims.{CheckRefusedLeaves, FreshNumbers, FreshRefusedLeaves, RunNumbers, RunRefusedLeaves, RunOfWritten}
+use Rattle.edge.specs.Claims.{CheckRefusedLeaves, FreshNumbers, FreshRefusedLeaves, FreshIsRunning, RunNumbers, RunRefusedLeaves, RunOfWritten}
 use Rattle.edge.proofs.EdgeLaws.{fresh-no-record, run-no-record, run-no-cursor}
 use Rattle.edge.proofs.ReadBack.{record-read-back, cursor-read-back}
 
@@ -35,7 +37,7 @@ never : {A : Type 0} (n : ℕ) → n < n → A
 never n h = absurd (omega arith)
 
 -- the check
-pub refusal-range : (r : Refusal) → (0 < refusalNumber r) × (refusalNumber r ≤ 9)
+pub refusal-range : (r : Refusal) → (0 < refusalNumber r) × (refusalNumber r ≤ 12)
 refusal-range Refusal.FrequencyAbove = (omega arith, omega arith)
 refusal-range Refusal.WeekStartAbove = (omega arith, omega arith)
 refusal-range Refusal.StartOut = (omega arith, omega arith)
@@ -45,6 +47,9 @@ refusal-range Refusal.NotRising = (omega arith, omega arith)
 refusal-range Refusal.MixedDays = (omega arith, omega arith)
 refusal-range Refusal.NthMisplaced = (omega arith, omega arith)
 refusal-range Refusal.PositionsAlone = (omega arith, omega arith)
+refusal-range Refusal.Nought = (omega arith, omega arith)
+refusal-range Refusal.CountAndUntil = (omega arith, omega arith)
+refusal-range Refusal.ListMisplaced = (omega arith, omega arith)
 
 check-cases : (P : Said → Type 0) (v : Verdict) (r : Rule) (bytes : List ℕ) → ((n : Refusal) → P (said (refusalNumber n) bytes)) → P (said 20 bytes)
     → P (said 0 (encodeRecord r)) → P (saidOf v r bytes)
@@ -58,7 +63,7 @@ check-cases P Verdict.Accepted r bytes a b c = go (eqb (length bytes) recordLeng
 pub check-numbers : CheckNumbers
 unfolding checkSays
 check-numbers w bytes =
-    check-cases (λ x. (x .number ≤ 9) ⊎ (x .number ≡ 20)) (checked w .verdict) (checked w .rule) bytes
+    check-cases (λ x. (x .number ≤ 12) ⊎ (x .number ≡ 20)) (checked w .verdict) (checked w .rule) bytes
     (λ n. inl (refusal-range n .1)) (inr refl) (inl (omega arith))
 
 pub check-refused-leaves : CheckRefusedLeaves
@@ -75,25 +80,32 @@ unfolding checkSays
 check-of-accepted w bytes e = (λ l. rw (e, eq-eqb (length bytes) recordLength l), λ l. rw (e, ne-eqb (length bytes) recordLength l))
 
 -- the fresh cursor
-fresh-cases : (P : Said → Type 0) (d : Decoded Rule) (bytes : List ℕ) → P (said 20 bytes) → P (said 21 bytes) → ((r : Rule) → P (said 0 (encodeCursor (freshOf r))))
-    → P (freshFrom d bytes)
+fresh-cases : (P : Said → Type 0) (d : Decoded Rule) (bytes : List ℕ) → P (said 20 bytes) → P (said 21 bytes)
+    → ((r : Rule) → yielded r ≡ true → P (said 0 (encodeCursor (freshOf r)))) → P (freshFrom d bytes)
 fresh-cases P nothing bytes a b c = a
-fresh-cases P (holds r) bytes a b c = go (yielded r) (eqb (length bytes) cursorLength)
+fresh-cases P (holds r) bytes a b c = go (yielded r) (eqb (length bytes) cursorLength) refl
   where
-    go : (s t : Bool) → P (if not s then said 20 bytes else if not t then said 21 bytes else said 0 (encodeCursor (freshOf r)))
-    go false t = a
-    go true false = b
-    go true true = c r
+    go : (s t : Bool) → yielded r ≡ s → P (if not s then said 20 bytes else if not t then said 21 bytes else said 0 (encodeCursor (freshOf r)))
+    go false t e = a
+    go true false e = b
+    go true true e = c r e
 
 pub fresh-numbers : FreshNumbers
 unfolding freshSays
 fresh-numbers rulebytes cursorbytes =
-    fresh-cases (λ x. (x .number ≡ 0) ⊎ ((x .number ≡ 20) ⊎ (x .number ≡ 21))) (decodeRecord rulebytes) cursorbytes (inr (inl refl)) (inr (inr refl)) (λ r. inl refl)
+    fresh-cases (λ x. (x .number ≡ 0) ⊎ ((x .number ≡ 20) ⊎ (x .number ≡ 21))) (decodeRecord rulebytes) cursorbytes (inr (inl refl)) (inr (inr refl))
+    (λ r g. inl refl)
 
 pub fresh-refused-leaves : FreshRefusedLeaves
 unfolding freshSays
 fresh-refused-leaves rulebytes cursorbytes =
-    fresh-cases (λ x. 0 < x .number → x .bytes ≡ cursorbytes) (decodeRecord rulebytes) cursorbytes (λ h. refl) (λ h. refl) (λ r h. never 0 h)
+    fresh-cases (λ x. 0 < x .number → x .bytes ≡ cursorbytes) (decodeRecord rulebytes) cursorbytes (λ h. refl) (λ h. refl) (λ r g h. never 0 h)
+
+pub fresh-is-running : FreshIsRunning
+unfolding freshSays
+fresh-is-running rulebytes cursorbytes =
+    fresh-cases (λ x. x .number ≡ 0 → x .bytes ≡ encodeCursor (startIn State.Running)) (decodeRecord rulebytes) cursorbytes (λ h. absurd (omega arith))
+    (λ h. absurd (omega arith)) (λ r g h. ap encodeCursor (fresh-runs r g))
 
 -- the run: refused before it begins, refused by the run itself, or answered
 abbrev Good : List ℕ → List ℕ → Shown → Type 0

@@ -80,12 +80,12 @@ abbrev pub FreshOfChecked : Type 0
 FreshOfChecked = (w : Raw) (bytes cursor : List ℕ) → checkSays w bytes .number ≡ 0 → length cursor ≡ cursorLength
     → freshSays (checkSays w bytes .bytes) cursor ≡ said 0 (encodeCursor (freshOf (checked w .rule)))
 
--- From an accepted check on: the record's bytes that it left, the fresh cursor's bytes, and any runs, of any buffers and budgets. None is refused, and
--- together they list the rule; with INTERVAL 0 they hand out nothing.
+-- From an accepted check on: the record's bytes that it left, the fresh cursor's bytes, and any runs, of any buffers and budgets. None is refused,
+-- together they list the rule, and cause 2, Interval, is never shown.
 pub record ChainListed (w : Raw) (rulebytes cursorbytes : List ℕ) (calls : List (Call ℕ)) : Type 0 where
   pub taken : NoneRefused rulebytes cursorbytes calls
-  pub lists : 1 ≤ w .interval → ListsC (checked w .rule) (runsTell rulebytes cursorbytes 0 calls)
-  pub nothing : w .interval ≡ 0 → runsTell rulebytes cursorbytes 0 calls .listed ≡ []
+  pub lists : ListsC (checked w .rule) (runsTell rulebytes cursorbytes 0 calls)
+  pub never : runsTell rulebytes cursorbytes 0 calls .cause ≡ 2 → ⊥
 
 abbrev pub ChainOverBytes : Type 0
 ChainOverBytes = (w : Raw) (bytes cursor : List ℕ) → checkSays w bytes .number ≡ 0 → length cursor ≡ cursorLength

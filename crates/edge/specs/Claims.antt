@@ -6,6 +6,7 @@ use mathlib.Core.Logic.{_⊎_}
 use mathlib.Core.Bool.{true}
 use mathlib.Core.List.{List}
 use lib.ListN.{length, getD}
+use Rattle.machine.specs.declared.State.{State}
 use Rattle.machine.specs.declared.Cursor.{Cursor}
 use Rattle.rule.specs.declared.rrule.Refusal.{Refusal}
 use Rattle.rule.specs.declared.rrule.Verdict.{Verdict}
@@ -14,7 +15,7 @@ use Rattle.rule.specs.Raw.{Raw}
 use Rattle.rule.specs.Refusals.{refusalNumber}
 use Rattle.rule.specs.Filling.{checked}
 use Rattle.rule.specs.Records.{yielded, Sized}
-use Rattle.rule.specs.Run.{runOf}
+use Rattle.rule.specs.Run.{startIn, runOf}
 use Rattle.edge.specs.Layout.{Decoded.holds, recordLength, recordVersion, encodeRecord, decodeRecord, cursorLength, cursorVersion, encodeCursor}
 use Rattle.edge.specs.Layout.{decodeCursor}
 use Rattle.edge.specs.Edge.{said, checkSays, freshSays, shown, shows, runSays}
@@ -68,7 +69,7 @@ OtherCursorRefused = (rulebytes cursorbytes buffer : List ℕ) (m : ℕ) (r : Ru
 
 -- Only the numbers of the table are said, and a call that says one of a refusal leaves what was lent as it was.
 abbrev pub CheckNumbers : Type 0
-CheckNumbers = (w : Raw) (bytes : List ℕ) → (checkSays w bytes .number ≤ 9) ⊎ (checkSays w bytes .number ≡ 20)
+CheckNumbers = (w : Raw) (bytes : List ℕ) → (checkSays w bytes .number ≤ 12) ⊎ (checkSays w bytes .number ≡ 20)
 
 abbrev pub CheckRefusedLeaves : Type 0
 CheckRefusedLeaves = (w : Raw) (bytes : List ℕ) → 0 < checkSays w bytes .number → checkSays w bytes .bytes ≡ bytes
@@ -78,6 +79,11 @@ FreshNumbers = (rulebytes cursorbytes : List ℕ) → (freshSays rulebytes curso
 
 abbrev pub FreshRefusedLeaves : Type 0
 FreshRefusedLeaves = (rulebytes cursorbytes : List ℕ) → 0 < freshSays rulebytes cursorbytes .number → freshSays rulebytes cursorbytes .bytes ≡ cursorbytes
+
+-- A fresh cursor that is made is running, with nothing passed and nothing handed out.
+abbrev pub FreshIsRunning : Type 0
+FreshIsRunning = (rulebytes cursorbytes : List ℕ) → freshSays rulebytes cursorbytes .number ≡ 0
+    → freshSays rulebytes cursorbytes .bytes ≡ encodeCursor (startIn State.Running)
 
 abbrev pub RunNumbers : Type 0
 RunNumbers = (rulebytes cursorbytes buffer : List ℕ) (m : ℕ)

@@ -388,24 +388,6 @@ past-until :
 unfolding holdingFrom
 past-until = refl
 
--- DAILY;INTERVAL=0 from 2024-01-01
-running-at-interval-0 :
-    HoldsFrom State.Running 0 0 0
-    (accepted 3 1704067200 (INTERVAL 0)
-    (with 1 0 ∷ [])
-    (told (Stop.Refused Fault.Cursor) State.Running 0 0 0 0 0 (9223372036854775807 ∷ []) ∷ []))
-unfolding holdingFrom
-running-at-interval-0 = refl
-
--- DAILY;INTERVAL=0 from 2024-01-01
-ended-at-interval-0 :
-    HoldsFrom (State.Ended Cause.Interval) 0 0 0
-    (accepted 3 1704067200 (INTERVAL 0)
-    (with 1 0 ∷ [])
-    (told Stop.Ended (State.Ended Cause.Interval) 0 0 0 0 0 (9223372036854775807 ∷ []) ∷ []))
-unfolding holdingFrom
-ended-at-interval-0 = refl
-
 -- DAILY;INTERVAL=2;COUNT=3 from 2024-01-01; cursor: k 18446744073709551615, place 4294967295, number 18446744073709551615
 ended-by-count :
     HoldsFrom (State.Ended Cause.Count) 18446744073709551615 4294967295 18446744073709551615

@@ -1,11 +1,11 @@
--- Each list at DAILY decides. Made by compare/make-grid.
+-- Each list that may stand with DAILY decides. Made by compare/make-grid.
 -- Assumes nothing.
 use mathlib.Core.Path.{refl}
 use mathlib.Core.List.{[], _∷_, _++_}
 use lib.IntN.{pos, negℤ}
 use Rattle.machine.specs.declared.State.{State}
 use Rattle.machine.specs.declared.Stop.{Stop}
-use Rattle.rule.specs.Charts.{BYMONTH, BYMONTHDAY, BYYEARDAY, BYWEEKNO, BYDAY, BYHOUR, BYMINUTE, BYSECOND, BYSETPOS, with, told, accepted}
+use Rattle.rule.specs.Charts.{BYMONTH, BYMONTHDAY, BYDAY, BYHOUR, BYMINUTE, BYSECOND, BYSETPOS, with, told, accepted}
 use Rattle.grid.specs.Grid.{holding, Holds}
 
 -- DAILY;BYMONTH=2 from 2024-01-31
@@ -34,42 +34,6 @@ by-month-day-from-end :
     (told Stop.More State.Running 1 1 1 1 1 (1706659200 ∷ []) ∷ []))
 unfolding holding
 by-month-day-from-end = refl
-
--- DAILY;BYYEARDAY=2 from 2024-01-01
-by-year-day :
-    Holds
-    (accepted 3 1704067200 (BYYEARDAY (pos 2 ∷ []))
-    (with 1 1 ∷ [])
-    (told Stop.More State.Running 1 1 1 1 1 (1704153600 ∷ []) ∷ []))
-unfolding holding
-by-year-day = refl
-
--- DAILY;BYYEARDAY=-1 from 2024-12-30
-by-year-day-from-end :
-    Holds
-    (accepted 3 1735516800 (BYYEARDAY (negℤ (pos 1) ∷ []))
-    (with 1 1 ∷ [])
-    (told Stop.More State.Running 1 1 1 1 1 (1735603200 ∷ []) ∷ []))
-unfolding holding
-by-year-day-from-end = refl
-
--- DAILY;BYWEEKNO=2 from 2024-01-07
-by-week-number :
-    Holds
-    (accepted 3 1704585600 (BYWEEKNO (pos 2 ∷ []))
-    (with 1 1 ∷ [])
-    (told Stop.More State.Running 1 1 1 1 1 (1704672000 ∷ []) ∷ []))
-unfolding holding
-by-week-number = refl
-
--- DAILY;BYWEEKNO=-1 from 2024-12-22
-by-week-number-from-end :
-    Holds
-    (accepted 3 1734825600 (BYWEEKNO (negℤ (pos 1) ∷ []))
-    (with 1 1 ∷ [])
-    (told Stop.More State.Running 1 1 1 1 1 (1734912000 ∷ []) ∷ []))
-unfolding holding
-by-week-number-from-end = refl
 
 -- DAILY;BYDAY=TU from 2024-01-01
 by-day :

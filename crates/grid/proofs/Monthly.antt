@@ -1,11 +1,11 @@
--- Each list at MONTHLY decides. Made by compare/make-grid.
+-- Each list that may stand with MONTHLY decides. Made by compare/make-grid.
 -- Assumes nothing.
 use mathlib.Core.Path.{refl}
 use mathlib.Core.List.{[], _∷_, _++_}
 use lib.IntN.{pos, negℤ}
 use Rattle.machine.specs.declared.State.{State}
 use Rattle.machine.specs.declared.Stop.{Stop}
-use Rattle.rule.specs.Charts.{BYMONTH, BYMONTHDAY, BYYEARDAY, BYWEEKNO, BYDAY, BYHOUR, BYMINUTE, BYSECOND, BYSETPOS, with, told, accepted}
+use Rattle.rule.specs.Charts.{BYMONTH, BYMONTHDAY, BYDAY, BYHOUR, BYMINUTE, BYSECOND, BYSETPOS, with, told, accepted}
 use Rattle.grid.specs.Grid.{holding, Holds}
 
 -- MONTHLY;BYMONTH=3 from 2024-01-01
@@ -34,42 +34,6 @@ by-month-day-from-end :
     (told Stop.Limited State.Running 0 1 1 0 1 (1706659200 ∷ 9223372036854775806 ∷ []) ∷ []))
 unfolding holding
 by-month-day-from-end = refl
-
--- MONTHLY;BYYEARDAY=33 from 2024-01-01
-by-year-day :
-    Holds
-    (accepted 1 1704067200 (BYYEARDAY (pos 33 ∷ []))
-    (with 2 1 ∷ [])
-    (told Stop.Limited State.Running 1 1 1 1 1 (1706832000 ∷ 9223372036854775806 ∷ []) ∷ []))
-unfolding holding
-by-year-day = refl
-
--- MONTHLY;BYYEARDAY=-2 from 2024-12-01
-by-year-day-from-end :
-    Holds
-    (accepted 1 1733011200 (BYYEARDAY (negℤ (pos 2) ∷ []))
-    (with 2 0 ∷ [])
-    (told Stop.Limited State.Running 0 1 1 0 1 (1735516800 ∷ 9223372036854775806 ∷ []) ∷ []))
-unfolding holding
-by-year-day-from-end = refl
-
--- MONTHLY;BYWEEKNO=3 from 2024-01-01
-by-week-number :
-    Holds
-    (accepted 1 1704067200 (BYWEEKNO (pos 3 ∷ []))
-    (with 2 0 ∷ [])
-    (told Stop.More State.Running 0 2 2 0 2 (1705276800 ∷ 1705363200 ∷ []) ∷ []))
-unfolding holding
-by-week-number = refl
-
--- MONTHLY;BYWEEKNO=-1 from 2024-12-01
-by-week-number-from-end :
-    Holds
-    (accepted 1 1733011200 (BYWEEKNO (negℤ (pos 1) ∷ []))
-    (with 2 0 ∷ [])
-    (told Stop.More State.Running 0 2 2 0 2 (1734912000 ∷ 1734998400 ∷ []) ∷ []))
-unfolding holding
-by-week-number-from-end = refl
 
 -- MONTHLY;BYDAY=TU from 2024-01-01
 by-day :

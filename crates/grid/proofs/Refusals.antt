@@ -3,7 +3,7 @@
 use mathlib.Core.Path.{_≡_, refl}
 use mathlib.Core.List.{List, [], _∷_, _++_, map}
 use lib.IntN.{pos, negℤ}
-use Rattle.rule.specs.Charts.{UNTIL, WKST, BYMONTH, BYMONTHDAY, BYYEARDAY, BYWEEKNO, BYDAY, BYHOUR, BYMINUTE, BYSECOND, BYSETPOS}
+use Rattle.rule.specs.Charts.{INTERVAL, COUNT, UNTIL, WKST, BYMONTH, BYMONTHDAY, BYYEARDAY, BYWEEKNO, BYDAY, BYHOUR, BYMINUTE, BYSECOND, BYSETPOS}
 use Rattle.grid.specs.Grid.{Judged, gives, numbers}
 
 unfoldable frequency : List Judged
@@ -76,13 +76,13 @@ entries-monthday-numbered = refl
 
 unfoldable entries-yearday : List Judged
 entries-yearday =
-    gives 5 3 1704067200 (BYYEARDAY (negℤ (pos 367) ∷ [])) ∷
-    gives 0 3 1704067200 (BYYEARDAY (negℤ (pos 366) ∷ [])) ∷
-    gives 0 3 1704067200 (BYYEARDAY (negℤ (pos 1) ∷ [])) ∷
-    gives 5 3 1704067200 (BYYEARDAY (pos 0 ∷ [])) ∷
-    gives 0 3 1704067200 (BYYEARDAY (pos 1 ∷ [])) ∷
-    gives 0 3 1704067200 (BYYEARDAY (pos 366 ∷ [])) ∷
-    gives 5 3 1704067200 (BYYEARDAY (pos 367 ∷ [])) ∷
+    gives 5 0 1704067200 (BYYEARDAY (negℤ (pos 367) ∷ [])) ∷
+    gives 0 0 1704067200 (BYYEARDAY (negℤ (pos 366) ∷ [])) ∷
+    gives 0 0 1704067200 (BYYEARDAY (negℤ (pos 1) ∷ [])) ∷
+    gives 5 0 1704067200 (BYYEARDAY (pos 0 ∷ [])) ∷
+    gives 0 0 1704067200 (BYYEARDAY (pos 1 ∷ [])) ∷
+    gives 0 0 1704067200 (BYYEARDAY (pos 366 ∷ [])) ∷
+    gives 5 0 1704067200 (BYYEARDAY (pos 367 ∷ [])) ∷
     []
 
 entries-yearday-numbered : numbers entries-yearday ≡ map (λ (j : Judged). j .number) entries-yearday
@@ -91,13 +91,13 @@ entries-yearday-numbered = refl
 
 unfoldable entries-weekno : List Judged
 entries-weekno =
-    gives 5 3 1704067200 (BYWEEKNO (negℤ (pos 54) ∷ [])) ∷
-    gives 0 3 1704067200 (BYWEEKNO (negℤ (pos 53) ∷ [])) ∷
-    gives 0 3 1704067200 (BYWEEKNO (negℤ (pos 1) ∷ [])) ∷
-    gives 5 3 1704067200 (BYWEEKNO (pos 0 ∷ [])) ∷
-    gives 0 3 1704067200 (BYWEEKNO (pos 1 ∷ [])) ∷
-    gives 0 3 1704067200 (BYWEEKNO (pos 53 ∷ [])) ∷
-    gives 5 3 1704067200 (BYWEEKNO (pos 54 ∷ [])) ∷
+    gives 5 0 1704067200 (BYWEEKNO (negℤ (pos 54) ∷ [])) ∷
+    gives 0 0 1704067200 (BYWEEKNO (negℤ (pos 53) ∷ [])) ∷
+    gives 0 0 1704067200 (BYWEEKNO (negℤ (pos 1) ∷ [])) ∷
+    gives 5 0 1704067200 (BYWEEKNO (pos 0 ∷ [])) ∷
+    gives 0 0 1704067200 (BYWEEKNO (pos 1 ∷ [])) ∷
+    gives 0 0 1704067200 (BYWEEKNO (pos 53 ∷ [])) ∷
+    gives 5 0 1704067200 (BYWEEKNO (pos 54 ∷ [])) ∷
     []
 
 entries-weekno-numbered : numbers entries-weekno ≡ map (λ (j : Judged). j .number) entries-weekno
@@ -200,11 +200,11 @@ order-monthday-numbered = refl
 
 unfoldable order-yearday : List Judged
 order-yearday =
-    gives 0 3 1704067200 (BYYEARDAY (pos 1 ∷ pos 2 ∷ [])) ∷
-    gives 6 3 1704067200 (BYYEARDAY (pos 1 ∷ pos 1 ∷ [])) ∷
-    gives 6 3 1704067200 (BYYEARDAY (pos 2 ∷ pos 1 ∷ [])) ∷
-    gives 0 3 1704067200 (BYYEARDAY (negℤ (pos 1) ∷ pos 1 ∷ [])) ∷
-    gives 6 3 1704067200 (BYYEARDAY (pos 1 ∷ negℤ (pos 1) ∷ [])) ∷
+    gives 0 0 1704067200 (BYYEARDAY (pos 1 ∷ pos 2 ∷ [])) ∷
+    gives 6 0 1704067200 (BYYEARDAY (pos 1 ∷ pos 1 ∷ [])) ∷
+    gives 6 0 1704067200 (BYYEARDAY (pos 2 ∷ pos 1 ∷ [])) ∷
+    gives 0 0 1704067200 (BYYEARDAY (negℤ (pos 1) ∷ pos 1 ∷ [])) ∷
+    gives 6 0 1704067200 (BYYEARDAY (pos 1 ∷ negℤ (pos 1) ∷ [])) ∷
     []
 
 order-yearday-numbered : numbers order-yearday ≡ map (λ (j : Judged). j .number) order-yearday
@@ -213,11 +213,11 @@ order-yearday-numbered = refl
 
 unfoldable order-weekno : List Judged
 order-weekno =
-    gives 0 3 1704067200 (BYWEEKNO (pos 1 ∷ pos 2 ∷ [])) ∷
-    gives 6 3 1704067200 (BYWEEKNO (pos 1 ∷ pos 1 ∷ [])) ∷
-    gives 6 3 1704067200 (BYWEEKNO (pos 2 ∷ pos 1 ∷ [])) ∷
-    gives 0 3 1704067200 (BYWEEKNO (negℤ (pos 1) ∷ pos 1 ∷ [])) ∷
-    gives 6 3 1704067200 (BYWEEKNO (pos 1 ∷ negℤ (pos 1) ∷ [])) ∷
+    gives 0 0 1704067200 (BYWEEKNO (pos 1 ∷ pos 2 ∷ [])) ∷
+    gives 6 0 1704067200 (BYWEEKNO (pos 1 ∷ pos 1 ∷ [])) ∷
+    gives 6 0 1704067200 (BYWEEKNO (pos 2 ∷ pos 1 ∷ [])) ∷
+    gives 0 0 1704067200 (BYWEEKNO (negℤ (pos 1) ∷ pos 1 ∷ [])) ∷
+    gives 6 0 1704067200 (BYWEEKNO (pos 1 ∷ negℤ (pos 1) ∷ [])) ∷
     []
 
 order-weekno-numbered : numbers order-weekno ≡ map (λ (j : Judged). j .number) order-weekno
@@ -321,7 +321,7 @@ nth =
     gives 8 0 1704067200 (BYWEEKNO (pos 1 ∷ []) ++ BYDAY (pos 2 ∷ []) (pos 1 ∷ [])) ∷
     gives 8 1 1704067200 (BYWEEKNO (pos 1 ∷ []) ++ BYDAY (pos 2 ∷ []) (pos 1 ∷ [])) ∷
     gives 0 0 1704067200 (BYWEEKNO (pos 1 ∷ []) ++ BYDAY (pos 0 ∷ []) (pos 1 ∷ [])) ∷
-    gives 0 1 1704067200 (BYWEEKNO (pos 1 ∷ []) ++ BYDAY (pos 0 ∷ []) (pos 1 ∷ [])) ∷
+    gives 12 1 1704067200 (BYWEEKNO (pos 1 ∷ []) ++ BYDAY (pos 0 ∷ []) (pos 1 ∷ [])) ∷
     []
 
 nth-numbered : numbers nth ≡ map (λ (j : Judged). j .number) nth
@@ -340,8 +340,8 @@ positions =
     gives 0 3 1704067200 ([]) ∷
     gives 0 3 1704067200 (BYMONTH (pos 1 ∷ []) ++ BYSETPOS (pos 1 ∷ [])) ∷
     gives 0 3 1704067200 (BYMONTHDAY (pos 1 ∷ []) ++ BYSETPOS (pos 1 ∷ [])) ∷
-    gives 0 3 1704067200 (BYYEARDAY (pos 1 ∷ []) ++ BYSETPOS (pos 1 ∷ [])) ∷
-    gives 0 3 1704067200 (BYWEEKNO (pos 1 ∷ []) ++ BYSETPOS (pos 1 ∷ [])) ∷
+    gives 0 0 1704067200 (BYYEARDAY (pos 1 ∷ []) ++ BYSETPOS (pos 1 ∷ [])) ∷
+    gives 0 0 1704067200 (BYWEEKNO (pos 1 ∷ []) ++ BYSETPOS (pos 1 ∷ [])) ∷
     gives 0 3 1704067200 (BYDAY (pos 0 ∷ []) (pos 1 ∷ []) ++ BYSETPOS (pos 1 ∷ [])) ∷
     gives 0 3 1704067200 (BYHOUR (pos 0 ∷ []) ++ BYSETPOS (pos 1 ∷ [])) ∷
     gives 0 3 1704067200 (BYMINUTE (pos 0 ∷ []) ++ BYSETPOS (pos 1 ∷ [])) ∷
@@ -351,6 +351,102 @@ positions =
 positions-numbered : numbers positions ≡ map (λ (j : Judged). j .number) positions
 unfolding numbers positions
 positions-numbered = refl
+
+unfoldable nought : List Judged
+nought =
+    gives 0 3 1704067200 ([]) ∷
+    gives 10 3 1704067200 (INTERVAL 0) ∷
+    gives 0 3 1704067200 (INTERVAL 1) ∷
+    gives 10 3 1704067200 (COUNT 0) ∷
+    gives 0 3 1704067200 (COUNT 1) ∷
+    gives 10 3 1704067200 (INTERVAL 0 ++ COUNT 1) ∷
+    gives 10 3 1704067200 (INTERVAL 2 ++ COUNT 0) ∷
+    gives 0 3 1704067200 (INTERVAL 65535 ++ COUNT 4294967295) ∷
+    []
+
+nought-numbered : numbers nought ≡ map (λ (j : Judged). j .number) nought
+unfolding numbers nought
+nought-numbered = refl
+
+unfoldable count-and-until : List Judged
+count-and-until =
+    gives 0 3 1704067200 (COUNT 1) ∷
+    gives 0 3 1704067200 (UNTIL 1704067200) ∷
+    gives 11 3 1704067200 (COUNT 1 ++ UNTIL 1704067200) ∷
+    gives 11 3 1704067200 (COUNT 3 ++ UNTIL 0) ∷
+    gives 11 3 1704067200 (COUNT 4294967295 ++ UNTIL 253402300799) ∷
+    []
+
+count-and-until-numbered : numbers count-and-until ≡ map (λ (j : Judged). j .number) count-and-until
+unfolding numbers count-and-until
+count-and-until-numbered = refl
+
+unfoldable misplaced-weekno : List Judged
+misplaced-weekno =
+    gives 0 0 1704067200 (BYWEEKNO (pos 1 ∷ [])) ∷
+    gives 12 1 1704067200 (BYWEEKNO (pos 1 ∷ [])) ∷
+    gives 12 2 1704067200 (BYWEEKNO (pos 1 ∷ [])) ∷
+    gives 12 3 1704067200 (BYWEEKNO (pos 1 ∷ [])) ∷
+    gives 12 4 1704067200 (BYWEEKNO (pos 1 ∷ [])) ∷
+    gives 12 5 1704067200 (BYWEEKNO (pos 1 ∷ [])) ∷
+    gives 12 6 1704067200 (BYWEEKNO (pos 1 ∷ [])) ∷
+    gives 0 0 1704067200 (BYWEEKNO (negℤ (pos 1) ∷ [])) ∷
+    gives 12 1 1704067200 (BYWEEKNO (negℤ (pos 1) ∷ [])) ∷
+    gives 12 2 1704067200 (BYWEEKNO (negℤ (pos 1) ∷ [])) ∷
+    gives 12 3 1704067200 (BYWEEKNO (negℤ (pos 1) ∷ [])) ∷
+    gives 12 4 1704067200 (BYWEEKNO (negℤ (pos 1) ∷ [])) ∷
+    gives 12 5 1704067200 (BYWEEKNO (negℤ (pos 1) ∷ [])) ∷
+    gives 12 6 1704067200 (BYWEEKNO (negℤ (pos 1) ∷ [])) ∷
+    []
+
+misplaced-weekno-numbered : numbers misplaced-weekno ≡ map (λ (j : Judged). j .number) misplaced-weekno
+unfolding numbers misplaced-weekno
+misplaced-weekno-numbered = refl
+
+unfoldable misplaced-yearday : List Judged
+misplaced-yearday =
+    gives 0 0 1704067200 (BYYEARDAY (pos 1 ∷ [])) ∷
+    gives 12 1 1704067200 (BYYEARDAY (pos 1 ∷ [])) ∷
+    gives 12 2 1704067200 (BYYEARDAY (pos 1 ∷ [])) ∷
+    gives 12 3 1704067200 (BYYEARDAY (pos 1 ∷ [])) ∷
+    gives 0 4 1704067200 (BYYEARDAY (pos 1 ∷ [])) ∷
+    gives 0 5 1704067200 (BYYEARDAY (pos 1 ∷ [])) ∷
+    gives 0 6 1704067200 (BYYEARDAY (pos 1 ∷ [])) ∷
+    gives 0 0 1704067200 (BYYEARDAY (negℤ (pos 1) ∷ [])) ∷
+    gives 12 1 1704067200 (BYYEARDAY (negℤ (pos 1) ∷ [])) ∷
+    gives 12 2 1704067200 (BYYEARDAY (negℤ (pos 1) ∷ [])) ∷
+    gives 12 3 1704067200 (BYYEARDAY (negℤ (pos 1) ∷ [])) ∷
+    gives 0 4 1704067200 (BYYEARDAY (negℤ (pos 1) ∷ [])) ∷
+    gives 0 5 1704067200 (BYYEARDAY (negℤ (pos 1) ∷ [])) ∷
+    gives 0 6 1704067200 (BYYEARDAY (negℤ (pos 1) ∷ [])) ∷
+    []
+
+misplaced-yearday-numbered : numbers misplaced-yearday ≡ map (λ (j : Judged). j .number) misplaced-yearday
+unfolding numbers misplaced-yearday
+misplaced-yearday-numbered = refl
+
+unfoldable misplaced-monthday : List Judged
+misplaced-monthday =
+    gives 0 0 1704067200 (BYMONTHDAY (pos 1 ∷ [])) ∷
+    gives 0 1 1704067200 (BYMONTHDAY (pos 1 ∷ [])) ∷
+    gives 12 2 1704067200 (BYMONTHDAY (pos 1 ∷ [])) ∷
+    gives 0 3 1704067200 (BYMONTHDAY (pos 1 ∷ [])) ∷
+    gives 0 4 1704067200 (BYMONTHDAY (pos 1 ∷ [])) ∷
+    gives 0 5 1704067200 (BYMONTHDAY (pos 1 ∷ [])) ∷
+    gives 0 6 1704067200 (BYMONTHDAY (pos 1 ∷ [])) ∷
+    gives 0 0 1704067200 (BYMONTHDAY (negℤ (pos 1) ∷ [])) ∷
+    gives 0 1 1704067200 (BYMONTHDAY (negℤ (pos 1) ∷ [])) ∷
+    gives 12 2 1704067200 (BYMONTHDAY (negℤ (pos 1) ∷ [])) ∷
+    gives 0 3 1704067200 (BYMONTHDAY (negℤ (pos 1) ∷ [])) ∷
+    gives 0 4 1704067200 (BYMONTHDAY (negℤ (pos 1) ∷ [])) ∷
+    gives 0 5 1704067200 (BYMONTHDAY (negℤ (pos 1) ∷ [])) ∷
+    gives 0 6 1704067200 (BYMONTHDAY (negℤ (pos 1) ∷ [])) ∷
+    gives 12 2 1704067200 (BYMONTHDAY (negℤ (pos 1) ∷ pos 1 ∷ [])) ∷
+    []
+
+misplaced-monthday-numbered : numbers misplaced-monthday ≡ map (λ (j : Judged). j .number) misplaced-monthday
+unfolding numbers misplaced-monthday
+misplaced-monthday-numbered = refl
 
 unfoldable lowest : List Judged
 lowest =
@@ -363,6 +459,12 @@ lowest =
     gives 7 2 1704067200 (BYDAY (pos 0 ∷ pos 2 ∷ []) (pos 0 ∷ pos 1 ∷ [])) ∷
     gives 5 3 1704067200 (BYSETPOS (pos 0 ∷ [])) ∷
     gives 6 3 1704067200 (BYSETPOS (pos 1 ∷ pos 1 ∷ [])) ∷
+    gives 8 3 1704067200 (BYWEEKNO (pos 1 ∷ []) ++ BYDAY (pos 2 ∷ []) (pos 1 ∷ [])) ∷
+    gives 9 3 1704067200 (INTERVAL 0 ++ BYSETPOS (pos 1 ∷ [])) ∷
+    gives 10 3 1704067200 (COUNT 0 ++ UNTIL 1704067200) ∷
+    gives 11 2 1704067200 (COUNT 1 ++ UNTIL 1704067200 ++ BYMONTHDAY (pos 1 ∷ [])) ∷
+    gives 4 3 1704067200 (COUNT 1 ++ UNTIL 253402300800) ∷
+    gives 5 2 1704067200 (BYMONTHDAY (pos 0 ∷ [])) ∷
     gives 1 7 253402300800 (UNTIL 253402300800 ++ WKST 7 ++ BYHOUR (pos 24 ∷ pos 8 ∷ []) ++ BYSETPOS (pos 0 ∷ [])) ∷
     []
 

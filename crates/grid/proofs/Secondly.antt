@@ -1,11 +1,11 @@
--- Each list at SECONDLY decides. Made by compare/make-grid.
+-- Each list that may stand with SECONDLY decides. Made by compare/make-grid.
 -- Assumes nothing.
 use mathlib.Core.Path.{refl}
 use mathlib.Core.List.{[], _∷_, _++_}
 use lib.IntN.{pos, negℤ}
 use Rattle.machine.specs.declared.State.{State}
 use Rattle.machine.specs.declared.Stop.{Stop}
-use Rattle.rule.specs.Charts.{BYMONTH, BYMONTHDAY, BYYEARDAY, BYWEEKNO, BYDAY, BYHOUR, BYMINUTE, BYSECOND, BYSETPOS, with, told, accepted}
+use Rattle.rule.specs.Charts.{BYMONTH, BYMONTHDAY, BYYEARDAY, BYDAY, BYHOUR, BYMINUTE, BYSECOND, BYSETPOS, with, told, accepted}
 use Rattle.grid.specs.Grid.{holding, Holds}
 
 -- SECONDLY;BYMONTH=2 from 2024-01-31
@@ -52,24 +52,6 @@ by-year-day-from-end :
     (told Stop.More State.Running 86400 1 1 1 1 (1735603200 ∷ []) ∷ []))
 unfolding holding
 by-year-day-from-end = refl
-
--- SECONDLY;BYWEEKNO=2 from 2024-01-07
-by-week-number :
-    Holds
-    (accepted 6 1704585600 (BYWEEKNO (pos 2 ∷ []))
-    (with 1 1 ∷ [])
-    (told Stop.More State.Running 86400 1 1 1 1 (1704672000 ∷ []) ∷ []))
-unfolding holding
-by-week-number = refl
-
--- SECONDLY;BYWEEKNO=-1 from 2024-12-22
-by-week-number-from-end :
-    Holds
-    (accepted 6 1734825600 (BYWEEKNO (negℤ (pos 1) ∷ []))
-    (with 1 1 ∷ [])
-    (told Stop.More State.Running 86400 1 1 1 1 (1734912000 ∷ []) ∷ []))
-unfolding holding
-by-week-number-from-end = refl
 
 -- SECONDLY;BYDAY=TU from 2024-01-01
 by-day :

@@ -1,11 +1,11 @@
--- Each list at WEEKLY decides. Made by compare/make-grid.
+-- Each list that may stand with WEEKLY decides. Made by compare/make-grid.
 -- Assumes nothing.
 use mathlib.Core.Path.{refl}
 use mathlib.Core.List.{[], _∷_, _++_}
 use lib.IntN.{pos, negℤ}
 use Rattle.machine.specs.declared.State.{State}
 use Rattle.machine.specs.declared.Stop.{Stop}
-use Rattle.rule.specs.Charts.{BYMONTH, BYMONTHDAY, BYYEARDAY, BYWEEKNO, BYDAY, BYHOUR, BYMINUTE, BYSECOND, BYSETPOS, with, told, accepted}
+use Rattle.rule.specs.Charts.{BYMONTH, BYDAY, BYHOUR, BYMINUTE, BYSECOND, BYSETPOS, with, told, accepted}
 use Rattle.grid.specs.Grid.{holding, Holds}
 
 -- WEEKLY;BYMONTH=2 from 2024-01-29
@@ -16,60 +16,6 @@ by-month :
     (told Stop.Limited State.Running 1 1 1 1 1 (1707091200 ∷ 9223372036854775806 ∷ []) ∷ []))
 unfolding holding
 by-month = refl
-
--- WEEKLY;BYMONTHDAY=3 from 2024-01-01
-by-month-day :
-    Holds
-    (accepted 2 1704067200 (BYMONTHDAY (pos 3 ∷ []))
-    (with 2 0 ∷ [])
-    (told Stop.Limited State.Running 0 1 1 0 1 (1704240000 ∷ 9223372036854775806 ∷ []) ∷ []))
-unfolding holding
-by-month-day = refl
-
--- WEEKLY;BYMONTHDAY=-1 from 2024-01-29
-by-month-day-from-end :
-    Holds
-    (accepted 2 1706486400 (BYMONTHDAY (negℤ (pos 1) ∷ []))
-    (with 2 0 ∷ [])
-    (told Stop.Limited State.Running 0 1 1 0 1 (1706659200 ∷ 9223372036854775806 ∷ []) ∷ []))
-unfolding holding
-by-month-day-from-end = refl
-
--- WEEKLY;BYYEARDAY=3 from 2024-01-01
-by-year-day :
-    Holds
-    (accepted 2 1704067200 (BYYEARDAY (pos 3 ∷ []))
-    (with 2 0 ∷ [])
-    (told Stop.Limited State.Running 0 1 1 0 1 (1704240000 ∷ 9223372036854775806 ∷ []) ∷ []))
-unfolding holding
-by-year-day = refl
-
--- WEEKLY;BYYEARDAY=-1 from 2024-12-30
-by-year-day-from-end :
-    Holds
-    (accepted 2 1735516800 (BYYEARDAY (negℤ (pos 1) ∷ []))
-    (with 2 0 ∷ [])
-    (told Stop.Limited State.Running 0 1 1 0 1 (1735603200 ∷ 9223372036854775806 ∷ []) ∷ []))
-unfolding holding
-by-year-day-from-end = refl
-
--- WEEKLY;BYWEEKNO=3 from 2024-01-01
-by-week-number :
-    Holds
-    (accepted 2 1704067200 (BYWEEKNO (pos 3 ∷ []))
-    (with 2 2 ∷ [])
-    (told Stop.More State.Running 2 2 2 2 2 (1705276800 ∷ 1705363200 ∷ []) ∷ []))
-unfolding holding
-by-week-number = refl
-
--- WEEKLY;BYWEEKNO=-1 from 2024-12-16
-by-week-number-from-end :
-    Holds
-    (accepted 2 1734307200 (BYWEEKNO (negℤ (pos 1) ∷ []))
-    (with 2 1 ∷ [])
-    (told Stop.More State.Running 1 2 2 1 2 (1734912000 ∷ 1734998400 ∷ []) ∷ []))
-unfolding holding
-by-week-number-from-end = refl
 
 -- WEEKLY;BYDAY=TU from 2024-01-01
 by-day :

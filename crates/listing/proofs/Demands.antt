@@ -32,7 +32,8 @@ use denote.Triple.Clauses.{AtExit}
 use borrow.Fn.Kinds.{Dens, resT, endedOf}
 use Rattle.listing.proofs.rrule_iter.run.Kinds as run-kinds
 use Rattle.listing.proofs.rrule_iter.run.Reads as run
-use Rattle.listing.specs.Demands.{Made, Promised, Chain, handedOut, leftBy, DemandOne, Stopped, Kept, AllKept, Listing, DemandThree}
+use Rattle.listing.specs.Demands.{Made, Promised, Chain, handedOut, leftBy, DemandOne, Stopped, Kept, AllKept, Listing, DemandThree, DemandThreeBefore}
+use Rattle.listing.specs.Demands.{NeverByInterval}
 
 abbrev given : Made → Call ℕ
 given x = record { buffer = x .buffer; budget = x .budget }
@@ -116,9 +117,9 @@ all-keep r c (x ∷ xs) p q = (
 )
 
 pub demand-three : DemandThree
-demand-three w ok one xs p =
+demand-three w ok xs p =
     let r : Rule = checked w .rule in
-    let l = rule-proofs.demand-three w ok one (map given xs) in
+    let l = rule-proofs.demand-three w ok (map given xs) in
     let t = tell r (freshOf r) xs p in
     let listed : rule.toldBy r (map given xs) .listed ≡ handedOut xs = ap (λ (x : Told ℕ). x .listed) t in
     let state : rule.toldBy r (map given xs) .cursor .state ≡ leftBy (freshOf r) xs .state = ap (λ (x : Told ℕ). x .cursor .state) t in
@@ -130,6 +131,13 @@ demand-three w ok one xs p =
       byCount = λ e. subst (λ (ys : List ℕ). r .count ≡ Count.Times (length ys)) listed (l .byCount (state ∙ e));
       noneLeft = λ cause e n t s. subst (λ (ys : List ℕ). t ∈ ys) listed (l .noneLeft cause (state ∙ e) n t s);
     }
+
+pub demand-three-before : DemandThreeBefore
+demand-three-before w ok one xs p = demand-three w ok xs p
+
+pub never-by-interval : NeverByInterval
+never-by-interval r good xs p e =
+    rule-proofs.never-by-interval r good (map given xs) (ap (λ (x : Told ℕ). x .cursor .state) (tell r (freshOf r) xs p) ∙ e)
 
 -- what is promised of a call is what the source of `run` states
 pub as-promised : (κs : Lfts 1) (a : Dens κs run-kinds.ps) (x : resT run-kinds.r κs .Denot) (e : AtExit (endedOf 1 run-kinds.ps run-kinds.r) κs)

@@ -59,11 +59,6 @@ module _ (r : Rule) (c : Cursor) (buffer : List ℕ) (m : ℕ) (a : Answer) wher
           ∙ ap (λ (s : State). resume (runs (periods r) m) s (opened c x)) running
           ∙ ap (λ (s : Now ℕ). runs (periods r) m s) held-now))
 
-      -- with INTERVAL 0 no running cursor is well formed
-      pub no-interval : r .interval ≡ 0 → poised (periods r) c ≡ false
-      unfolding periods
-      no-interval e = rw e
-
       -- a period out of range is no place for a running cursor
       pub out-of-range : inRange r (c .k) ≡ false → poised (periods r) c ≡ false
       unfolding periods

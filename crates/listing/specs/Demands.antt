@@ -92,5 +92,15 @@ pub record Listing (r : Rule) (xs : List Made) : Type 0 where
 
 abbrev pub DemandThree : Type 0
 DemandThree =
+    (w : Raw) → checked w .verdict ≡ Verdict.Accepted → (xs : List Made)
+    → Chain (checked w .rule) (freshOf (checked w .rule)) xs → Listing (checked w .rule) xs
+
+-- as it was said before request 2026-01, when the check took INTERVAL 0
+abbrev pub DemandThreeBefore : Type 0
+DemandThreeBefore =
     (w : Raw) → checked w .verdict ≡ Verdict.Accepted → 1 ≤ w .interval → (xs : List Made)
     → Chain (checked w .rule) (freshOf (checked w .rule)) xs → Listing (checked w .rule) xs
+
+-- No calls from the fresh cursor of a good record are ended by Interval.
+abbrev pub NeverByInterval : Type 0
+NeverByInterval = (r : Rule) → yielded r ≡ true → (xs : List Made) → Chain r (freshOf r) xs → leftBy (freshOf r) xs .state ≡ State.Ended Cause.Interval → ⊥

@@ -194,9 +194,6 @@ pub fn run(rule: Rule, cursor: Cursor, buffer: &mut [u64], m: u32) -> Answer
         State::Ended(_) => return answer(Stop::Ended, state, held_at(cursor)),
         State::Running => {}
     }
-    if rule.interval == 0 {
-        return refused(Fault::Cursor, cursor);
-    }
     let freq = rule.freq;
     match counter_at(freq, rule.interval, rule.wkst, rule.start, cursor.k) {
         Reached::To(counter) => run_on(rule, plan_of(rule), counter, cursor, buffer, m),

@@ -151,10 +151,17 @@ reading-13i = refl
 
 -- UNTIL plays no part in well formed
 reading-13j :
-    playFrom (at State.Running 9 0 4) (raw 3 1 (Count.Times 5) (Until.At 1704067200) 0 1704067200 (rawLists [] [] [] [] [] [] [] [] [] [])) (of 1 0 ∷ [])
+    playFrom (at State.Running 9 0 4) (raw 3 1 Count.Absent (Until.At 1704067200) 0 1704067200 (rawLists [] [] [] [] [] [] [] [] [] [])) (of 1 0 ∷ [])
     ≡ answers (told Stop.Ended (at (State.Ended Cause.Until) 9 0 4) 0 0 (100 ∷ []) ∷ [])
 unfolding play playFrom runs after walk atCandidate counted moveOn leap newYear daysBeforeMonth
 reading-13j = refl
+
+-- with COUNT beside it: 11
+reading-13j-with-count :
+    play (raw 3 1 (Count.Times 5) (Until.At 1704067200) 0 1704067200 (rawLists [] [] [] [] [] [] [] [] [] [])) ([])
+    ≡ refused Refusal.CountAndUntil
+unfolding play playFrom runs after walk atCandidate counted moveOn leap newYear daysBeforeMonth
+reading-13j-with-count = refl
 
 -- next before the start: 0 is allowed
 reading-13k :
@@ -170,24 +177,24 @@ reading-13l :
 unfolding play playFrom runs after walk atCandidate counted moveOn leap newYear daysBeforeMonth
 reading-13l = refl
 
--- a running cursor on INTERVAL 0: 21
+-- a running cursor on INTERVAL 0: the check refuses the rule, 10
 reading-13m :
-    playFrom (at State.Running 0 0 0) (raw 3 0 Count.Absent Until.Absent 0 1704067200 (rawLists [] [] [] [] [] [] [] [] [] [])) (of 1 0 ∷ [])
-    ≡ answers (told (Stop.Refused Fault.Cursor) (at State.Running 0 0 0) 0 0 (100 ∷ []) ∷ [])
+    playFrom (at State.Running 0 0 0) (raw 3 0 Count.Absent Until.Absent 0 1704067200 (rawLists [] [] [] [] [] [] [] [] [] [])) ([])
+    ≡ refused Refusal.Nought
 unfolding play playFrom runs after walk atCandidate counted moveOn leap newYear daysBeforeMonth
 reading-13m = refl
 
--- INTERVAL 0, fresh: ended by Interval
+-- INTERVAL 0, fresh: 10
 reading-13n :
-    play (raw 3 0 Count.Absent Until.Absent 0 1704067200 (rawLists [] [] [] [] [] [] [] [] [] [])) (of 1 5 ∷ [])
-    ≡ answers (told Stop.Ended (at (State.Ended Cause.Interval) 0 0 0) 0 0 (100 ∷ []) ∷ [])
+    play (raw 3 0 Count.Absent Until.Absent 0 1704067200 (rawLists [] [] [] [] [] [] [] [] [] [])) ([])
+    ≡ refused Refusal.Nought
 unfolding play playFrom runs after walk atCandidate counted moveOn leap newYear daysBeforeMonth
 reading-13n = refl
 
--- COUNT 0 and INTERVAL 0: Count
+-- COUNT 0 and INTERVAL 0: 10
 reading-13o :
-    play (raw 3 0 (Count.Times 0) Until.Absent 0 1704067200 (rawLists [] [] [] [] [] [] [] [] [] [])) (of 1 5 ∷ [])
-    ≡ answers (told Stop.Ended (at (State.Ended Cause.Count) 0 0 0) 0 0 (100 ∷ []) ∷ [])
+    play (raw 3 0 (Count.Times 0) Until.Absent 0 1704067200 (rawLists [] [] [] [] [] [] [] [] [] [])) ([])
+    ≡ refused Refusal.Nought
 unfolding play playFrom runs after walk atCandidate counted moveOn leap newYear daysBeforeMonth
 reading-13o = refl
 

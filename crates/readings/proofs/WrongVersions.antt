@@ -212,12 +212,19 @@ month :
 unfolding play playFrom runs after walk atCandidate counted moveOn leap newYear daysBeforeMonth
 month = refl
 
--- WEEKLY;BYMONTHDAY=13;BYDAY=SA
+-- MONTHLY;BYMONTHDAY=13;BYDAY=SA
 month-day-by-itself :
-    play (raw 2 1 Count.Absent Until.Absent 0 1704067200 (rawLists [] (pos 13 ∷ []) [] [] (pos 0 ∷ []) (pos 5 ∷ []) [] [] [] [])) (of 1 2 ∷ [])
-    ≡ answers (told Stop.More (at State.Running 1 1 1) 1 1 (1705104000 ∷ []) ∷ [])
+    play (raw 1 1 Count.Absent Until.Absent 0 1704067200 (rawLists [] (pos 13 ∷ []) [] [] (pos 0 ∷ []) (pos 5 ∷ []) [] [] [] [])) (of 1 2 ∷ [])
+    ≡ answers (told Stop.More (at State.Running 0 1 1) 0 1 (1705104000 ∷ []) ∷ [])
 unfolding play playFrom runs after walk atCandidate counted moveOn leap newYear daysBeforeMonth
 month-day-by-itself = refl
+
+-- WEEKLY;BYMONTHDAY=13;BYDAY=SA: 12
+month-day-in-a-week :
+    play (raw 2 1 Count.Absent Until.Absent 0 1704067200 (rawLists [] (pos 13 ∷ []) [] [] (pos 0 ∷ []) (pos 5 ∷ []) [] [] [] [])) ([])
+    ≡ refused Refusal.ListMisplaced
+unfolding play playFrom runs after walk atCandidate counted moveOn leap newYear daysBeforeMonth
+month-day-in-a-week = refl
 
 -- DAILY at 23:59:59
 hour-23 :

@@ -1,6 +1,9 @@
 // Whether a record is one that an accepted check yields. Each flag is read once, with no early exit: a run asks this at every call.
 use basics::lists::is_empty;
+use basics::rrule::count_and_until;
 use basics::rrule::frequency_number;
+use basics::rrule::has_nought;
+use basics::rrule::is_misplaced;
 use rule::rrule::Rule;
 use rule::rrule::Until;
 ghost use mathlib.Core.Path.{_≡_};
@@ -50,7 +53,10 @@ pub fn is_record(rule: Rule) -> bool
     ensures { λ r. ⌜ r ≡ yielded rule ⌝ }
 {
     let freq = rule.freq;
+    let count = rule.count;
     let until = rule.until;
+    let nought = has_nought(rule.interval, count);
+    let bounded = count_and_until(count, until);
     let number = frequency_number(freq);
     let until = until_out(until);
     let every = has_every(&rule.byday);
@@ -63,6 +69,7 @@ pub fn is_record(rule: Rule) -> bool
     let minutes = is_empty(&rule.byminute);
     let seconds = is_empty(&rule.bysecond);
     let positions = is_empty(&rule.bysetpos);
+    let misplaced = is_misplaced(number, !weeknos, !yeardays, !monthdays);
     let days = weeknos & (yeardays & (monthdays & !(every | nth)));
     let others = months & (days & (hours & (minutes & seconds)));
     // the rows that a record can break, in the table's order
@@ -71,7 +78,10 @@ pub fn is_record(rule: Rule) -> bool
         | until
         | (every & nth)
         | (nth & (!weeknos | (1 < number)))
-        | (!positions & others);
+        | (!positions & others)
+        | nought
+        | bounded
+        | misplaced;
     let unfilled = (days & (number < 3))
         | (((number < 4) & hours) | (((number < 5) & minutes) | ((number < 6) & seconds)));
     !(broken | unfilled)

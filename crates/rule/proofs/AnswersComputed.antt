@@ -3,7 +3,7 @@
 -- Assumes nothing.
 use mathlib.Core.Path.{_≡_, refl}
 use mathlib.Core.Bool.{false}
-use mathlib.Core.List.{[], _∷_}
+use mathlib.Core.List.{[], _∷_, _++_}
 use lib.IntN.{pos}
 use Rattle.calendar.specs.Calendar.{leap, newYear, daysBeforeMonth}
 use Rattle.machine.specs.Run.{counted, atCandidate, moveOn}
@@ -16,9 +16,9 @@ use Rattle.rule.specs.Lists.{setOf}
 use Rattle.rule.specs.Raw.{Raw}
 use Rattle.rule.specs.Refusals.{verdict}
 use Rattle.rule.specs.Filling.{given, fill}
-use Rattle.rule.specs.Records.{yielded}
+use Rattle.rule.specs.Records.{yielded, breaksNoRow}
 use Rattle.rule.specs.Candidates.{candidates}
-use Rattle.rule.specs.Charts.{BYMONTH, BYDAY, BYHOUR, ruleOf, play, playOf, lastWeek}
+use Rattle.rule.specs.Charts.{COUNT, UNTIL, BYMONTH, BYYEARDAY, BYDAY, BYHOUR, ruleOf, play, playOf, lastWeek}
 
 -- the last week of a year is counted in the weeks of its own year, whole answer and all
 pub last-week-is : playOf lastWeek ≡ lastWeek .played
@@ -58,6 +58,21 @@ no-hour-for-hourly = refl
 out-before-order : verdict (ruleOf 3 1704067200 (BYHOUR (pos 24 ∷ pos 8 ∷ []))) ≡ Verdict.Refused Refusal.EntryOut
 unfolding verdict ruleOf
 out-before-order = refl
+
+-- DAILY;COUNT=0;UNTIL=2024-01-01 has a zero, and both ends
+zero-before-both : verdict (ruleOf 3 1704067200 (COUNT 0 ++ UNTIL 1704067200)) ≡ Verdict.Refused Refusal.Nought
+unfolding verdict ruleOf
+zero-before-both = refl
+
+-- the record of DAILY;COUNT=2;UNTIL=2024-01-01 breaks a row
+both-is-no-record : breaksNoRow (fill (given (ruleOf 3 1704067200 (COUNT 2 ++ UNTIL 1704067200)))) ≡ false
+unfolding breaksNoRow fill given ruleOf
+both-is-no-record = refl
+
+-- MONTHLY;BYYEARDAY=1
+year-day-in-a-month : verdict (ruleOf 1 1704067200 (BYYEARDAY (pos 1 ∷ []))) ≡ Verdict.Refused Refusal.ListMisplaced
+unfolding verdict ruleOf
+year-day-in-a-month = refl
 
 -- SECONDLY from 2024-01-01: the first second of the day is the candidate of its own period
 first-of-the-day : candidates (fill (given (ruleOf 6 1704067200 []))) 0 ≡ second 1704067200 ∷ []

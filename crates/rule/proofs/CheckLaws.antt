@@ -8,16 +8,18 @@ use native.Mathlib.Omega.{arith}
 use lib.ListN.{length}
 use lib.Dec.{eqb, ltb}
 use lib.IntN.{ℤ}
-use borrow.Author.Tests.{ne-eqb, ltb-false}
+use borrow.Author.Tests.{eqb-false, ne-eqb, ltb-false}
 use Rattle.rule.specs.declared.rrule.Frequency.{Frequency}
 use Rattle.rule.specs.declared.rrule.Refusal.{Refusal}
 use Rattle.rule.specs.declared.rrule.Verdict.{Verdict}
 use Rattle.rule.specs.declared.rrule.Rule.{Rule}
 use Rattle.rule.specs.Instants.{lastInstant}
 use Rattle.rule.specs.Raw.{RawLists, Raw}
-use Rattle.rule.specs.Refusals.{refusals, lacks, someEvery, someNth, mixedDays, nthMisplaced, applies, firstOf, verdict}
+use Rattle.rule.specs.Refusals.{refusals, lacks, someEvery, someNth, mixedDays, nthMisplaced, countNought, misplaces, listMisplaced, applies, firstOf}
+use Rattle.rule.specs.Refusals.{verdict}
 use Rattle.rule.specs.Filling.{frequency, givenAs, given, fill, blank, answers, checked}
 use Rattle.rule.specs.Entries.{orRefused}
+use Rattle.rule.proofs.GivenLaws.{neither}
 use Rattle.rule.proofs.RefusalLaws.{none-given}
 
 pub lacks-is : (l : List ℤ) → eqb (length l) 0 ≡ lacks l
@@ -62,7 +64,7 @@ pub all-rows : {w : Raw} {v : Verdict} → Judged w v [] → v ≡ verdict w
 unfolding judged
 all-rows j = j .is
 
--- two rows whose tests the code has in parts
+-- three rows whose tests the code has in parts
 pub mixed-by : (l : RawLists) {v n : Bool} → v ≡ someEvery (l .bydayn) → n ≡ someNth (l .bydayn) → (v && n) ≡ mixedDays l
 unfolding mixedDays
 mixed-by l e f = rw (e, f)
@@ -72,11 +74,24 @@ pub misplaced-by : (freq : ℕ) (l : RawLists) {n : Bool} → n ≡ someNth (l .
 unfolding nthMisplaced
 misplaced-by freq l e = rw (e, lacks-is (l .byweekno))
 
+pub list-misplaced-by : (freq : ℕ) (l : RawLists) {m : Bool}
+    → m ≡ misplaces freq (not (eqb (length (l .byweekno)) 0)) (not (eqb (length (l .byyearday)) 0)) (not (eqb (length (l .bymonthday)) 0))
+    → m ≡ listMisplaced freq l
+list-misplaced-by freq l e = e ∙ rw (lacks-is (l .byweekno), lacks-is (l .byyearday), lacks-is (l .bymonthday))
+
 pub start-in-range : (w : Raw) → verdict w ≡ Verdict.Accepted → w .start ≤ lastInstant
 start-in-range w e = ltb-false lastInstant (w .start) (none-given w .0 e Refusal.StartOut)
 
 pub wkst-in-range : (w : Raw) → verdict w ≡ Verdict.Accepted → w .wkst ≤ 6
 wkst-in-range w e = ltb-false 6 (w .wkst) (none-given w .0 e Refusal.WeekStartAbove)
+
+pub interval-above : (w : Raw) → verdict w ≡ Verdict.Accepted → 1 ≤ w .interval
+interval-above w e =
+    let n : w .interval ≡ 0 → ⊥ = eqb-false (w .interval) 0 (neither (eqb (w .interval) 0) _ (none-given w .0 e Refusal.Nought) .0) in
+    omega arith
+
+pub count-above : (w : Raw) → verdict w ≡ Verdict.Accepted → countNought (w .count) ≡ false
+count-above w e = neither (eqb (w .interval) 0) (countNought (w .count)) (none-given w .0 e Refusal.Nought) .1
 
 refused-is : (v : Verdict) (r : Rule) (n : Refusal) → v ≡ Verdict.Refused n → record { verdict = v; rule = blank } ≡ answers v r
 unfolding answers

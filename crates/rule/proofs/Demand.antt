@@ -23,16 +23,15 @@ use Rattle.rule.specs.declared.rrule.Verdict.{Verdict}
 use Rattle.rule.specs.declared.rrule.Rule.{Rule}
 use Rattle.rule.specs.Instants.{second, instant, lastInstant, rangeEnd}
 use Rattle.rule.specs.Refusals.{verdict}
-use Rattle.rule.specs.Raw.{Raw}
-use Rattle.rule.specs.Filling.{given, fill, answers, checked, Yields}
+use Rattle.rule.specs.Filling.{given, fill, answers, checked}
 use Rattle.rule.specs.Records.{asRaw, yielded}
 use Rattle.rule.specs.Periods.{period, inRange}
 use Rattle.rule.specs.Candidates.{Kept, kept}
 use Rattle.rule.specs.Satisfies.{NotAfter, Satisfies}
 use Rattle.rule.specs.Run.{countOf, untilOf, periods, freshOf}
 use Rattle.rule.specs.Meaning.{RisesFrom}
-use Rattle.rule.specs.Demand.{callOf, toldBy, Handed, EndedBy, Lists, GoodRecordsList, DemandThree}
-use Rattle.rule.proofs.CheckLaws.{start-in-range, wkst-in-range}
+use Rattle.rule.specs.Demand.{callOf, toldBy, Handed, EndedBy, Lists, GoodRecordsList, DemandThree, IntervalFollows, DemandThreeBefore, NeverByInterval}
+use Rattle.rule.proofs.CheckLaws.{start-in-range, wkst-in-range, interval-above}
 use Rattle.rule.proofs.Chosen.{kept-are}
 use Rattle.rule.proofs.GoodRecords.{good-records}
 use Rattle.rule.proofs.RefusalLaws.{accepting}
@@ -43,7 +42,7 @@ both-left : (a b : Bool) → a && b ≡ true → a ≡ true
 both-left true b e = refl
 both-left false b e = e
 
-passes : (r : Rule) → yielded r ≡ true → verdict (asRaw r) ≡ Verdict.Accepted
+pub passes : (r : Rule) → yielded r ≡ true → verdict (asRaw r) ≡ Verdict.Accepted
 unfolding yielded
 passes r e = accepting (verdict (asRaw r)) (both-left _ _ e)
 
@@ -54,6 +53,10 @@ good-start r e = start-in-range (asRaw r) (passes r e)
 pub good-wkst : (r : Rule) → yielded r ≡ true → r .wkst ≤ 6
 unfolding asRaw
 good-wkst r e = wkst-in-range (asRaw r) (passes r e)
+
+pub good-interval : (r : Rule) → yielded r ≡ true → 1 ≤ r .interval
+unfolding asRaw
+good-interval r e = interval-above (asRaw r) (passes r e)
 
 -- instants and seconds
 back : (s : ℕ) → 719162 * 86400 ≤ s → second (instant s) ≡ s
@@ -67,7 +70,10 @@ at-most : (u : Until) (t : ℕ) → NotAfter u t → AtMost (untilOf u) (second 
 at-most Until.Absent t p = tt
 at-most (Until.At u) t p = omega arith
 
-module _ (r : Rule) (good : yielded r ≡ true) (one : 1 ≤ r .interval) where
+module _ (r : Rule) (good : yielded r ≡ true) where
+  abbrev one : 1 ≤ r .interval
+  one = good-interval r good
+
   abbrev wk : r .wkst ≤ 6
   wk = good-wkst r good
 
@@ -138,13 +144,13 @@ times-of : (c : Count) (n : ℕ) → countOf c ≡ present n → c ≡ Count.Tim
 times-of Count.Absent n e = absurd (let z : _≡_ {A = ℕ} 0 1 = cc in omega arith)
 times-of (Count.Times m) n e = let f : m ≡ n = cc in ap Count.Times f
 
-module _ (r : Rule) (good : yielded r ≡ true) (one : 1 ≤ r .interval) (calls : List (Call ℕ)) where
+module _ (r : Rule) (good : yielded r ≡ true) (calls : List (Call ℕ)) where
   abbrev L : List ℕ
   L = toldBy r calls .listed
 
   machine : MachineLists (periods r) (toldBy r calls)
   unfolding freshOf
-  machine = chain-lists (periods r) (λ h. sound r one (wk r good one) (st r good one)) (yielded r) good calls .1
+  machine = chain-lists (periods r) (λ h. sound r h (wk r good) (st r good)) (yielded r) good calls .1
 
   abbrev xs : List ℕ
   xs = machine .seconds
@@ -154,7 +160,7 @@ module _ (r : Rule) (good : yielded r ≡ true) (one : 1 ≤ r .interval) (calls
   written = machine .written
 
   late : (s : ℕ) → s ∈ xs → 719162 * 86400 ≤ s
-  late s i = low r good one s (machine .only s i)
+  late s i = low r good s (machine .only s i)
 
   seconds-of : (t : ℕ) → Handed r calls t → second t ∈ xs
   seconds-of t h = in-map xs t late (subst (λ (l : List ℕ). t ∈ l) written h)
@@ -166,7 +172,7 @@ module _ (r : Rule) (good : yielded r ≡ true) (one : 1 ≤ r .interval) (calls
   same-instant t = omega arith
 
   satisfies : (t : ℕ) → second t ∈ xs → Satisfies r t
-  satisfies t i = subst (Satisfies r) (same-instant t) (to-instant r good one (second t) (machine .only (second t) i))
+  satisfies t i = subst (Satisfies r) (same-instant t) (to-instant r good (second t) (machine .only (second t) i))
 
   count-length : length L ≡ length xs
   count-length = ap length written ∙ length-instants xs
@@ -175,7 +181,7 @@ module _ (r : Rule) (good : yielded r ≡ true) (one : 1 ≤ r .interval) (calls
   whole : (cause : Cause) → (cause ≡ Cause.Count → ⊥) → Says (periods r) xs cause → All (periods r) xs
   unfolding periods
   whole Cause.Count n p = absurd (n refl)
-  whole Cause.Interval n p = absurd (let e : r .interval ≡ 0 = p in omega arith)
+  whole Cause.Interval n p = absurd (let e : r .interval ≡ 0 = p in omega (arith, good-interval r good))
   whole Cause.Until n p = p
   whole Cause.NoTick n p = p
   whole Cause.Range n p = p
@@ -183,35 +189,42 @@ module _ (r : Rule) (good : yielded r ≡ true) (one : 1 ≤ r .interval) (calls
   each-call : Lists r calls
   unfolding periods freshOf
   each-call = record {
-    each = chain-lists (periods r) (λ h. sound r one (wk r good one) (st r good one)) (yielded r) good calls .0;
+    each = chain-lists (periods r) (λ h. sound r h (wk r good) (st r good)) (yielded r) good calls .0;
     rises = subst (RisesFrom 0) (sym written) (map-rises 0 _ xs (machine .rises) late);
     only = λ t h. satisfies t (seconds-of t h);
-    all = λ t u h p l. handed-of t (machine .noneSkipped (second t) (second u) (seconds-of u h) (to-second r good one t p) (omega arith));
+    all = λ t u h p l. handed-of t (machine .noneSkipped (second t) (second u) (seconds-of u h) (to-second r good t p) (omega arith));
     exactly = λ t. (
-      λ h. (satisfies t (seconds-of t h), machine .exactly one (second t) .0 (seconds-of t h) .1),
-      λ p. handed-of t (machine .exactly one (second t) .1 (to-second r good one t (p .0), p .1)),
+      λ h. (satisfies t (seconds-of t h), machine .exactly (good-interval r good) (second t) .0 (seconds-of t h) .1),
+      λ p. handed-of t (machine .exactly (good-interval r good) (second t) .1 (to-second r good t (p .0), p .1)),
     );
     number = machine .number ∙ sym count-length;
     counted = subst (AtMost (countOf (r .count))) (sym count-length) (machine .counted);
     byCount = λ e. times-of (r .count) (length L) (machine .ended Cause.Count e ∙ ap present (sym count-length));
-    noneLeft = λ cause e n t p. handed-of t (whole cause n (machine .ended cause e) (second t) (to-second r good one t p));
+    noneLeft = λ cause e n t p. handed-of t (whole cause n (machine .ended cause e) (second t) (to-second r good t p));
   }
 
+  never-interval : EndedBy r calls Cause.Interval → ⊥
+  unfolding periods
+  never-interval e = let z : r .interval ≡ 0 = machine .ended Cause.Interval e in omega (arith, good-interval r good)
+
 pub good-records-list : GoodRecordsList
-good-records-list r good one calls = each-call r good one calls
+good-records-list r good calls = each-call r good calls
 
--- an accepted check keeps INTERVAL, and its record is a good one
-answered-interval : (v : Verdict) (q : Rule) → answers v q .verdict ≡ Verdict.Accepted → answers v q .rule .interval ≡ q .interval
-unfolding answers
-answered-interval Verdict.Accepted q e = refl
-answered-interval (Verdict.Refused n) q e = absurd (let z : _≡_ {A = ℕ} 0 1 = cc in omega arith)
-
-pub interval-kept : (w : Raw) → checked w .verdict ≡ Verdict.Accepted → checked w .rule .interval ≡ w .interval
-unfolding checked given fill
-interval-kept w e = answered-interval (verdict w) (fill (given w)) e
+pub never-by-interval : NeverByInterval
+never-by-interval r good calls = never-interval r good calls
 
 pub demand-three : DemandThree
-demand-three w e one calls =
-    let good = good-records (checked w .rule) .1 (w, record { accepted = e; record-is = refl }) in
-    let kept : checked w .rule .interval ≡ w .interval = interval-kept w e in
-    good-records-list (checked w .rule) good (omega arith) calls
+demand-three w e calls = good-records-list (checked w .rule) (good-records (checked w .rule) .1 (w, record { accepted = e; record-is = refl })) calls
+
+-- INTERVAL follows from the check, and with it demand 3 as it was said before
+answered-verdict : (v : Verdict) (q : Rule) → answers v q .verdict ≡ v
+unfolding answers
+answered-verdict Verdict.Accepted q = refl
+answered-verdict (Verdict.Refused n) q = refl
+
+pub interval-follows : IntervalFollows
+unfolding checked
+interval-follows w e = interval-above w (sym (answered-verdict (verdict w) (fill (given w))) ∙ e)
+
+pub demand-three-before : DemandThreeBefore
+demand-three-before w e one calls = demand-three w e calls

@@ -7,7 +7,8 @@ use Prim.Native.Nat.{ℕ, _+_, _/_, _%_, _≤_, _<_}
 use native.Mathlib.Omega.{arith}
 use lib.ListN.{length}
 use lib.Seq.{take-set-le, drop-set-lt}
-use borrow.Author.Tests.{not-true}
+use lib.Dec.{eqb}
+use borrow.Author.Tests.{not-true, eqb-true}
 use Rattle.calendar.specs.declared.utils.Date.{Date}
 use Rattle.calendar.specs.Calendar.{if_then_else_, dateOf}
 use Rattle.rule.specs.declared.rrule.Slot.{Slot}
@@ -17,7 +18,9 @@ use Rattle.rule.specs.Instants.{second}
 use Rattle.rule.specs.Lists.{isEmpty, mark}
 use Rattle.rule.specs.Filling.{frequencyNumber, takes, noDays, fill}
 use Rattle.rule.specs.Records.{hasEvery, hasNth, noOther, breaks, Sized}
+use Rattle.rule.specs.Refusals.{misplaces}
 use Rattle.rule.proofs.EntryLaws.{length-mark}
+use Rattle.rule.proofs.SetLaws.{take-no}
 use Rattle.rule.proofs.DayParts.{empty-in-parts}
 use Rattle.rule.proofs.FillLaws.{filledBy, filled-by, both, empty-before, no-days-before}
 use Rattle.rule.proofs.GivenLaws.{neither}
@@ -94,6 +97,20 @@ others-before r s n date free h =
       empty-before _ _ _ (d .1),
     )
 
+-- WEEKLY takes no month day, and only with WEEKLY are month days misplaced
+weekly-takes-none : (n : ℕ) (free : Bool) (s : List Bool) (e : Slot) → eqb n 2 ≡ true → takes (free && (eqb n 0 || eqb n 1)) s e ≡ s
+weekly-takes-none n free s e h = take-no (free && (eqb n 0 || eqb n 1)) s e (rw (eqb-true n 2 h) (and-false free))
+
+only-where : (t : Bool) {x y : Bool} → (t ≡ true → x ≡ y) → (x && t) ≡ (y && t)
+only-where true h = ap (λ (b : Bool). b && true) (h refl)
+only-where false {x = x} {y = y} h = and-false x ∙ sym (and-false y)
+
+misplaced-kept : (n : ℕ) (free weeknos yeardays : Bool) (s : List Bool) (e : Slot)
+    → misplaces n weeknos yeardays (not (isEmpty (takes (free && (eqb n 0 || eqb n 1)) s e))) ≡ misplaces n weeknos yeardays (not (isEmpty s))
+misplaced-kept n free weeknos yeardays s e =
+    ap (λ (b : Bool). weeknos && not (eqb n 0) || yeardays && (eqb n 3 || (eqb n 2 || eqb n 1)) || b)
+    (only-where (eqb n 2) (λ h. ap (λ (l : List Bool). not (isEmpty l)) (weekly-takes-none n free s e h)))
+
 -- each row that a record keeps, it keeps filled in
 keeps-by : (r : Rule) (s : ℕ) (date : Date) (free : Bool) → Sized r → (m : Refusal) → breaks m r ≡ false
     → breaks m (filledBy r s (frequencyNumber (r .freq)) date free) ≡ false
@@ -108,6 +125,10 @@ keeps-by r s date free z Refusal.NthMisplaced h = rw (nth-kept _ (r .byday) (371
 keeps-by r s date free z Refusal.PositionsAlone h =
     narrower (not (isEmpty (r .bysetpos))) (noOther r) (not (isEmpty (r .bysetpos))) (noOther (filledBy r s (frequencyNumber (r .freq)) date free))
     (λ e. e) (others-before r s (frequencyNumber (r .freq)) date free) h
+keeps-by r s date free z Refusal.Nought h = h
+keeps-by r s date free z Refusal.CountAndUntil h = h
+keeps-by r s date free z Refusal.ListMisplaced h =
+    misplaced-kept (frequencyNumber (r .freq)) free (not (isEmpty (r .byweekno))) (not (isEmpty (r .byyearday))) (r .bymonthday) (Slot.At (date .day + 30)) ∙ h
 
 pub fill-keeps : (r : Rule) → Sized r → (m : Refusal) → breaks m r ≡ false → breaks m (fill r) ≡ false
 fill-keeps r z m h =

@@ -8,11 +8,13 @@ pub mod Ends
 pub mod EntryLaws
 pub mod FillKeeps
 pub mod FillLaws
+pub mod FreshLaws
 pub mod GivenLaws
 pub mod GoodRecords
 pub mod Listed
 pub mod Members
 pub mod Moved
+pub mod NineRows
 pub mod NthWeekday
 pub mod OneList
 pub mod Order

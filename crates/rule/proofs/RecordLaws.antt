@@ -3,6 +3,7 @@
 use mathlib.Core.Path.{_≡_, refl, ap, sym, _∙_}
 use mathlib.Core.Bool.{Bool, true, false, not, _&&_, _||_}
 use mathlib.Core.List.{List, [], _∷_, map}
+use Prim.Native.Nat.{ℕ}
 use lib.Dec.{ltb}
 use lib.ListN.{length, length-map}
 use borrow.Author.Tests.{eq-eqb}
@@ -10,7 +11,7 @@ use Rattle.rule.specs.declared.rrule.Frequency.{Frequency}
 use Rattle.rule.specs.declared.rrule.Refusal.{Refusal}
 use Rattle.rule.specs.declared.rrule.Rule.{Rule}
 use Rattle.rule.specs.Lists.{months, monthdays, yeardays, weeknos, hours, minutes, seconds, positions, isEmpty}
-use Rattle.rule.specs.Refusals.{refusals, some, entryOut, notRising, mixedDays, nthMisplaced, positionsAlone, applies, verdict}
+use Rattle.rule.specs.Refusals.{refusals, some, entryOut, notRising, mixedDays, nthMisplaced, positionsAlone, misplaces, listMisplaced, applies, verdict}
 use Rattle.rule.specs.Filling.{frequencyNumber, frequency, given, noDays}
 use Rattle.rule.specs.Records.{valueOf, slotsFrom, asRaw, accepts, hasEvery, hasNth, noOther, breaks, breaksNoRow, Sized}
 use Rattle.rule.proofs.RefusalLaws.{accepts-none}
@@ -118,6 +119,16 @@ module _ (r : Rule) (z : Sized r) where
       (ap (λ (b : Bool). not (isEmpty (r .bysetpos)) && b)
       (in-order (isEmpty (r .bymonth)) (isEmpty (r .bymonthday)) (isEmpty (r .byyearday)) (isEmpty (r .byweekno)) (isEmpty (r .byday)) _))
 
+  list-misplaced-is : (freq : ℕ) → listMisplaced freq (asRaw r .lists)
+      ≡ misplaces freq (not (isEmpty (r .byweekno))) (not (isEmpty (r .byyearday))) (not (isEmpty (r .bymonthday)))
+  unfolding asRaw
+  list-misplaced-is freq =
+      rw (
+        lacks-values (valueOf weeknos) 0 (r .byweekno),
+        lacks-values (valueOf yeardays) 0 (r .byyearday),
+        lacks-values (valueOf monthdays) 0 (r .bymonthday),
+      )
+
   -- each row, asked of the record instead
   pub breaks-is : (n : Refusal) → applies n (asRaw r) ≡ breaks n r
   unfolding asRaw
@@ -130,6 +141,9 @@ module _ (r : Rule) (z : Sized r) where
   breaks-is Refusal.MixedDays = mixed-is
   breaks-is Refusal.NthMisplaced = misplaced-is
   breaks-is Refusal.PositionsAlone = alone-is
+  breaks-is Refusal.Nought = refl
+  breaks-is Refusal.CountAndUntil = refl
+  breaks-is Refusal.ListMisplaced = list-misplaced-is (frequencyNumber (r .freq))
 
   pub accepted-is : accepts (verdict (asRaw r)) ≡ breaksNoRow r
   unfolding verdict breaksNoRow

@@ -50,7 +50,7 @@ module _ (p : Refusal → Bool) where
   unfolding firstOf
   here k ks h = rw (h, firstOf)
 
-  later : (k : Refusal) (ks : List Refusal) → p k ≡ false → firstOf p (k ∷ ks) ≡ firstOf p ks
+  pub later : (k : Refusal) (ks : List Refusal) → p k ≡ false → firstOf p (k ∷ ks) ≡ firstOf p ks
   unfolding firstOf
   later k ks h = rw (h, firstOf)
 
@@ -128,6 +128,9 @@ at-its-number Refusal.NotRising = refl
 at-its-number Refusal.MixedDays = refl
 at-its-number Refusal.NthMisplaced = refl
 at-its-number Refusal.PositionsAlone = refl
+at-its-number Refusal.Nought = refl
+at-its-number Refusal.CountAndUntil = refl
+at-its-number Refusal.ListMisplaced = refl
 
 listed : (n : Refusal) → IsIn n refusals
 listed n = first-in (λ (m : Refusal). eqb (refusalNumber m) (refusalNumber n)) n refusals (at-its-number n)

@@ -16,3 +16,4 @@ pub mod Charts
 pub mod Meaning
 pub mod Demand
 pub mod Claims
+pub mod NineRows

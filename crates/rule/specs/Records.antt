@@ -16,7 +16,7 @@ use Rattle.rule.specs.declared.rrule.Rule.{Rule}
 use Rattle.rule.specs.Instants.{lastInstant}
 use Rattle.rule.specs.Lists.{months, monthdays, yeardays, weeknos, nths, weekdays, hours, minutes, seconds, positions, isEmpty}
 use Rattle.rule.specs.Raw.{Raw}
-use Rattle.rule.specs.Refusals.{refusals, untilOut, some, verdict}
+use Rattle.rule.specs.Refusals.{refusals, untilOut, some, nought, countAndUntil, misplaces, verdict}
 use Rattle.rule.specs.Filling.{frequencyNumber, isBelow, noDays, given, fill}
 
 -- the value of a slot
@@ -113,6 +113,10 @@ breaks Refusal.NotRising r = false
 breaks Refusal.MixedDays r = hasEvery (r .byday) && hasNth (r .byday)
 breaks Refusal.NthMisplaced r = hasNth (r .byday) && (not (isEmpty (r .byweekno)) || isBelow Frequency.Monthly (r .freq))
 breaks Refusal.PositionsAlone r = not (isEmpty (r .bysetpos)) && noOther r
+breaks Refusal.Nought r = nought (r .interval) (r .count)
+breaks Refusal.CountAndUntil r = countAndUntil (r .count) (r .until)
+breaks Refusal.ListMisplaced r =
+    misplaces (frequencyNumber (r .freq)) (not (isEmpty (r .byweekno))) (not (isEmpty (r .byyearday))) (not (isEmpty (r .bymonthday)))
 
 unfoldable pub breaksNoRow : Rule → Bool
 unfolding some isEmpty hasEvery hasNth noOther

@@ -7,6 +7,7 @@ use lib.ListN.{length}
 use lib.Dec.{eqb, ltb}
 use lib.IntN.{ℤ, pos, negsuc}
 use lib.Signed.{ltZ}
+use Rattle.rule.specs.declared.rrule.Count.{Count}
 use Rattle.rule.specs.declared.rrule.Until.{Until}
 use Rattle.rule.specs.declared.rrule.Range.{Range}
 use Rattle.rule.specs.declared.rrule.Slot.{Slot}
@@ -26,6 +27,9 @@ refusalNumber Refusal.NotRising = 6
 refusalNumber Refusal.MixedDays = 7
 refusalNumber Refusal.NthMisplaced = 8
 refusalNumber Refusal.PositionsAlone = 9
+refusalNumber Refusal.Nought = 10
+refusalNumber Refusal.CountAndUntil = 11
+refusalNumber Refusal.ListMisplaced = 12
 
 -- in the table's order
 abbrev pub refusals : List Refusal
@@ -39,6 +43,9 @@ refusals =
     Refusal.MixedDays ∷
     Refusal.NthMisplaced ∷
     Refusal.PositionsAlone ∷
+    Refusal.Nought ∷
+    Refusal.CountAndUntil ∷
+    Refusal.ListMisplaced ∷
     []
 
 -- UNTIL out of range
@@ -154,6 +161,33 @@ positionsAlone l =
     && (lacks (l .bymonth) && (lacks (l .bymonthday) && (lacks (l .byyearday) && (lacks (l .byweekno)
     && (lacks (l .bydayn) && (lacks (l .bydayw) && (lacks (l .byhour) && (lacks (l .byminute) && lacks (l .bysecond)))))))))
 
+-- INTERVAL or COUNT is 0: an absent COUNT is no zero
+abbrev pub countNought : Count → Bool
+countNought Count.Absent = false
+countNought (Count.Times n) = eqb n 0
+
+abbrev pub nought : ℕ → Count → Bool
+nought interval count = eqb interval 0 || countNought count
+
+-- COUNT and UNTIL are both present
+abbrev pub hasCount : Count → Bool
+hasCount Count.Absent = false
+hasCount (Count.Times n) = true
+
+abbrev pub countAndUntil : Count → Until → Bool
+countAndUntil count Until.Absent = false
+countAndUntil count (Until.At t) = hasCount count
+
+-- BYWEEKNO outside YEARLY, BYYEARDAY with DAILY, WEEKLY or MONTHLY, BYMONTHDAY with WEEKLY: by the frequency's number, and which lists are present
+abbrev pub misplaces : (freq : ℕ) (weeknos yeardays monthdays : Bool) → Bool
+misplaces freq weeknos yeardays monthdays =
+    weeknos && not (eqb freq 0)
+    || yeardays && (eqb freq 3 || (eqb freq 2 || eqb freq 1))
+    || monthdays && eqb freq 2
+
+abbrev pub listMisplaced : ℕ → RawLists → Bool
+listMisplaced freq l = misplaces freq (not (lacks (l .byweekno))) (not (lacks (l .byyearday))) (not (lacks (l .bymonthday)))
+
 -- The table: each row judged by itself on the rule as given.
 abbrev pub applies : Refusal → Raw → Bool
 applies Refusal.FrequencyAbove w = ltb 6 (w .freq)
@@ -165,6 +199,9 @@ applies Refusal.NotRising w = notRising (w .lists)
 applies Refusal.MixedDays w = mixedDays (w .lists)
 applies Refusal.NthMisplaced w = nthMisplaced (w .freq) (w .lists)
 applies Refusal.PositionsAlone w = positionsAlone (w .lists)
+applies Refusal.Nought w = nought (w .interval) (w .count)
+applies Refusal.CountAndUntil w = countAndUntil (w .count) (w .until)
+applies Refusal.ListMisplaced w = listMisplaced (w .freq) (w .lists)
 
 -- the first refusal that passes a test
 unfoldable pub firstOf : (Refusal → Bool) → List Refusal → Verdict

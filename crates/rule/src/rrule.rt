@@ -65,6 +65,9 @@ pub enum Refusal {
     MixedDays,
     NthMisplaced,
     PositionsAlone,
+    Nought,
+    CountAndUntil,
+    ListMisplaced,
 }
 
 pub enum Verdict {

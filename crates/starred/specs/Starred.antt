@@ -6,7 +6,8 @@ use Rattle.machine.specs.declared.Cause.{Cause}
 use Rattle.machine.specs.declared.State.{State}
 use Rattle.machine.specs.declared.Stop.{Stop}
 use Rattle.rule.specs.declared.rrule.Refusal.{Refusal}
-use Rattle.rule.specs.Charts.{INTERVAL, COUNT, UNTIL, WKST, BYMONTH, BYMONTHDAY, BYWEEKNO, BYDAY, BYHOUR, BYSECOND, BYSETPOS, ruleOf, with, told, Case, accepted, refusedBy, lastWeek}
+use Rattle.rule.specs.Charts.{INTERVAL, COUNT, UNTIL, WKST, BYMONTH, BYMONTHDAY, BYYEARDAY, BYWEEKNO, BYDAY, BYHOUR, BYSECOND, BYSETPOS}
+use Rattle.rule.specs.Charts.{ruleOf, with, told, Case, accepted, refusedBy, lastWeek}
 
 unfoldable pub starred : List Case
 unfolding ruleOf
@@ -190,15 +191,13 @@ further =
     (with 1 9 ∷ [])
     (told Stop.Ended (State.Ended Cause.Until) 0 0 0 0 0 (9223372036854775807 ∷ [])
     ∷ []) ∷
-    -- COUNT 0, and INTERVAL 0
-    accepted 3 1704067200 (COUNT 0 ++ INTERVAL 0)
-    (with 1 9 ∷ [])
-    (told Stop.Ended (State.Ended Cause.Count) 0 0 0 0 0 (9223372036854775807 ∷ [])
-    ∷ []) ∷
-    accepted 3 1704067200 (INTERVAL 0)
-    (with 1 9 ∷ [])
-    (told Stop.Ended (State.Ended Cause.Interval) 0 0 0 0 0 (9223372036854775807 ∷ [])
-    ∷ []) ∷
+    -- COUNT 0 with INTERVAL 0, and INTERVAL 0: 10. COUNT with UNTIL: 11. DAILY;BYWEEKNO=1, MONTHLY;BYYEARDAY=1 and WEEKLY;BYMONTHDAY=-1: 12
+    refusedBy 3 1704067200 (COUNT 0 ++ INTERVAL 0) Refusal.Nought ∷
+    refusedBy 3 1704067200 (INTERVAL 0) Refusal.Nought ∷
+    refusedBy 3 1704067200 (COUNT 3 ++ UNTIL 0) Refusal.CountAndUntil ∷
+    refusedBy 3 1704067200 (BYWEEKNO (pos 1 ∷ [])) Refusal.ListMisplaced ∷
+    refusedBy 1 1704067200 (BYYEARDAY (pos 1 ∷ [])) Refusal.ListMisplaced ∷
+    refusedBy 2 1704067200 (BYMONTHDAY (negℤ (pos 1) ∷ [])) Refusal.ListMisplaced ∷
     -- MONTHLY;BYMONTHDAY=31;BYHOUR=9;BYSETPOS=-1;COUNT=2 from 2024-01-01
     accepted 1 1704067200 (BYMONTHDAY (pos 31 ∷ []) ++ BYHOUR (pos 9 ∷ []) ++ BYSETPOS (negℤ (pos 1) ∷ []) ++ COUNT 2)
     (with 2 9 ∷ [])

@@ -16,6 +16,9 @@ use crate::entries::is_rising;
 use crate::entries::mark_list;
 use crate::entries::mark_pairs;
 use crate::filling::filled;
+use basics::rrule::count_and_until;
+use basics::rrule::has_nought;
+use basics::rrule::is_misplaced;
 use rule::rrule::Checked;
 use rule::rrule::Count;
 use rule::rrule::Frequency;
@@ -286,6 +289,14 @@ fn verdict_of(
     let nth = has_nth(bydayn);
     let mixed = has_every(bydayn) & nth;
     let misplaced = nth & ((byweekno.len() != 0) | (1 < freq));
+    let nought = has_nought(interval, count);
+    let bounded = count_and_until(count, until);
+    let lists = is_misplaced(
+        freq,
+        byweekno.len() != 0,
+        byyearday.len() != 0,
+        bymonthday.len() != 0,
+    );
     let until = until_out(until);
     let mut verdict = Verdict::Accepted;
     verdict = or_refused(verdict, Refusal::FrequencyAbove, 6 < freq);
@@ -297,6 +308,9 @@ fn verdict_of(
     verdict = or_refused(verdict, Refusal::MixedDays, mixed);
     verdict = or_refused(verdict, Refusal::NthMisplaced, misplaced);
     verdict = or_refused(verdict, Refusal::PositionsAlone, alone);
+    verdict = or_refused(verdict, Refusal::Nought, nought);
+    verdict = or_refused(verdict, Refusal::CountAndUntil, bounded);
+    verdict = or_refused(verdict, Refusal::ListMisplaced, lists);
     verdict
 }
 

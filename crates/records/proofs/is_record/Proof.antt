@@ -6,6 +6,12 @@ use borrow.Author.Needs.{needs}
 use Rattle.records.proofs.is_record.Statement.{statement}
 use Rattle.records.proofs.is_record.Tie as tie
 
+has-nought-requires : tie.Need-has-nought-requires
+has-nought-requires c κs = search needs
+
+count-and-until-requires : tie.Need-count-and-until-requires
+count-and-until-requires c κs = search needs
+
 frequency-number-requires : tie.Need-frequency-number-requires
 frequency-number-requires c κs = search needs
 
@@ -42,9 +48,13 @@ is-empty-requires-7 c κs = search needs
 is-empty-requires-8 : tie.Need-is-empty-requires-8
 is-empty-requires-8 c κs = search needs
 
+is-misplaced-requires : tie.Need-is-misplaced-requires
+is-misplaced-requires c κs = search needs
+
 returns : tie.Need-returns
 returns c =
-    let bysecond = c .before .before .before .before in
+    let bysetpos = c .before in
+    let bysecond = bysetpos .before .before .before .before in
     let byminute = bysecond .before .before .before .before in
     let byhour = byminute .before .before .before .before in
     let byweekno = byhour .before .before .before .before in
@@ -55,7 +65,9 @@ returns c =
     let every = nth .before .before .before .before in
     let until = every .before .before .before .before in
     let frequency = until .before in
-    let start = frequency .before in
+    let bounded = frequency .before in
+    let nought = bounded .before in
+    let start = nought .before in
     let sized : Sized (start .args .t1) = record {
       bymonth = bymonth .before .is-empty-arg2 .given .0;
       bymonthday = bymonthday .before .is-empty-arg4 .given .0;
@@ -65,16 +77,19 @@ returns c =
       byhour = byhour .before .is-empty-arg10 .given .0;
       byminute = byminute .before .is-empty-arg12 .given .0;
       bysecond = bysecond .before .is-empty-arg14 .given .0;
-      bysetpos = c .before .is-empty-arg16 .given .0;
+      bysetpos = bysetpos .before .is-empty-arg16 .given .0;
     } in
     record-by-parts (start .args .t1) sized (frequency .frequency-number .ensures) (until .until-out .ensures) (every .has-every .ensures)
     (nth .has-nth .ensures) (bymonth .is-empty .ensures) (bymonthday .is-empty2 .ensures) (byyearday .is-empty3 .ensures)
-    (byweekno .is-empty4 .ensures) (byhour .is-empty5 .ensures) (byminute .is-empty6 .ensures) (bysecond .is-empty7 .ensures) (c .is-empty8 .ensures)
+    (byweekno .is-empty4 .ensures) (byhour .is-empty5 .ensures) (byminute .is-empty6 .ensures) (bysecond .is-empty7 .ensures) (bysetpos .is-empty8 .ensures)
+    (nought .has-nought .ensures) (bounded .count-and-until .ensures) (c .is-misplaced .ensures)
 
 pub is-record-spec : {M : Type 1} → statement M
 is-record-spec =
     tie.close
     (tie.spec
+    has-nought-requires
+    count-and-until-requires
     frequency-number-requires
     until-out-requires
     has-every-requires
@@ -87,4 +102,5 @@ is-record-spec =
     is-empty-requires-6
     is-empty-requires-7
     is-empty-requires-8
+    is-misplaced-requires
     returns)

@@ -3,7 +3,7 @@
 use mathlib.Core.Path.{refl, sym, _∙_}
 use mathlib.Core.Bool.{true, false}
 use borrow.Author.Tests.{eq-eqb, ne-eqb}
-use Rattle.basics.proofs.FreshLaws.{fresh-by}
+use Rattle.rule.proofs.FreshLaws.{fresh-by}
 use borrow.Author.Needs.{needs}
 use Rattle.basics.proofs.rrule.fresh.Statement.{statement}
 use Rattle.basics.proofs.rrule.fresh.Tie as tie

@@ -3,18 +3,18 @@
 use Prim.Native.Nat.{ℕ}
 use mathlib.Core.Path.{_≡_, sym, ap, _∙_}
 use mathlib.Core.Bool.{true, false}
-use native.Mathlib.Omega.{arith}
 use borrow.Author.Needs.{needs}
 use borrow.Author.Tests.{not-true, not-false}
 use Rattle.machine.specs.declared.Stop.{Stop}
 use Rattle.walks.specs.declared.rrule_iter.Held.{Held}
 use Rattle.settling.specs.Settling.{answerOf}
 use Rattle.rule.specs.Records.{yielded}
+use Rattle.rule.proofs.Demand.{good-interval}
 use Rattle.periods.specs.Counters.{reachedAt}
 use Rattle.periods.proofs.Reach.{reached-by-fields, reached-counter, reached-range, never-no-tick}
 use Rattle.opened.proofs.Plans.{plan-is}
 use Rattle.opened.proofs.Yielded.{good}
-use Rattle.listing.proofs.Entering.{record-refused, ended-returns, cursor-refused, no-interval, out-of-range}
+use Rattle.listing.proofs.Entering.{record-refused, ended-returns, cursor-refused, out-of-range}
 use Rattle.listing.proofs.rrule_iter.run.Statement.{statement}
 use Rattle.listing.proofs.rrule_iter.run.Tie as tie
 
@@ -31,15 +31,14 @@ is-good c = sym (c .before .is-record .ensures) ∙ not-false _ (c .if1 .left)
 abbrev accepted : tie.After-enum-told2 → tie.Else1
 accepted c = c .before .before
 
--- and INTERVAL is at least 1
-abbrev running : tie.Else2 → tie.After-enum-told2
-running c = c .before .before
+abbrev running : tie.After-counter-at → tie.After-enum-told2
+running c = c .before
 
 told-reached : (c : tie.After-counter-at) →
-    let a = start (accepted (running (c .before))) .args in
+    let a = start (accepted (running c)) .args in
     c .counter-at .result ≡ reachedAt (a .rule) (a .cursor .k)
 told-reached c =
-    let a = start (accepted (running (c .before))) .args in
+    let a = start (accepted (running c)) .args in
     c .counter-at .ensures ∙ sym (reached-by-fields (a .rule) (a .cursor .k))
 
 -- ---- the calls' conditions, and the answers
@@ -77,18 +76,6 @@ returns-2 c =
 enum-told-2 : tie.Need-enum-told-2
 enum-told-2 c = search needs
 
-refused-requires-2 : tie.Need-refused-requires-2
-refused-requires-2 c κs = search needs
-
-returns-3 : tie.Need-returns-3
-returns-3 c =
-    let e = c .before .before .before in
-    let g = accepted e in
-    let a = start g .args in
-    let run = e .enum-told2 .given .1 in
-    cursor-refused (a .rule) (a .cursor) (a .buffer .now) (a .m) (c .refused2 .result) (is-good g) run
-    (no-interval (a .rule) (a .cursor) (a .buffer .now) (a .m) (c .refused2 .result) (is-good g) run (c .before .if2 .taken)) (c .refused2 .ensures)
-
 counter-at-requires : tie.Need-counter-at-requires
 counter-at-requires c κs = search needs
 
@@ -102,7 +89,7 @@ run-on-requires : tie.Need-run-on-requires
 run-on-requires c κs =
     let n = c .before .before .before in
     let r = n .before .before in
-    let e = running (r .before) in
+    let e = running r in
     let g = accepted e in
     let a = start g .args in
     let to = reached-counter (a .rule) (a .cursor .k) (n .counter .given .0 .0) (sym (n .counter .given .1) ∙ told-reached r) in (
@@ -111,43 +98,43 @@ run-on-requires c κs =
       to .0,
       to .1,
       e .enum-told2 .given .1,
-      omega (arith, r .before .if2 .left),
+      good-interval (a .rule) (is-good g),
     )
 
 enum-told-3 : tie.Need-enum-told-3
 enum-told-3 c = search needs
 
-refused-requires-3 : tie.Need-refused-requires-3
-refused-requires-3 c κs = search needs
+refused-requires-2 : tie.Need-refused-requires-2
+refused-requires-2 c κs = search needs
 
 enum-told-4 : tie.Need-enum-told-4
 enum-told-4 c = search needs
 
-refused-requires-4 : tie.Need-refused-requires-4
-refused-requires-4 c κs = search needs
+refused-requires-3 : tie.Need-refused-requires-3
+refused-requires-3 c κs = search needs
 
 same-length : tie.Need-same-length
 same-length c = search needs
 
+returns-3 : tie.Need-returns-3
+returns-3 c = c .before .before .run-on .ensures
+
 returns-4 : tie.Need-returns-4
-returns-4 c = c .before .before .run-on .ensures
+returns-4 c =
+    let r = c .before .before .before in
+    let a = start (accepted (running r)) .args in
+    absurd (never-no-tick (a .rule) (a .cursor .k) (sym (c .before .enum-told3 .given .1) ∙ told-reached r))
 
 returns-5 : tie.Need-returns-5
 returns-5 c =
     let r = c .before .before .before in
-    let a = start (accepted (running (r .before))) .args in
-    absurd (never-no-tick (a .rule) (a .cursor .k) (sym (c .before .enum-told3 .given .1) ∙ told-reached r))
-
-returns-6 : tie.Need-returns-6
-returns-6 c =
-    let r = c .before .before .before in
-    let e = running (r .before) in
+    let e = running r in
     let g = accepted e in
     let a = start g .args in
     let run = e .enum-told2 .given .1 in
     let out = reached-range (a .rule) (a .cursor .k) (sym (c .before .enum-told4 .given .1) ∙ told-reached r) in
-    cursor-refused (a .rule) (a .cursor) (a .buffer .now) (a .m) (c .refused4 .result) (is-good g) run
-    (out-of-range (a .rule) (a .cursor) (a .buffer .now) (a .m) (c .refused4 .result) (is-good g) run out) (c .refused4 .ensures)
+    cursor-refused (a .rule) (a .cursor) (a .buffer .now) (a .m) (c .refused3 .result) (is-good g) run
+    (out-of-range (a .rule) (a .cursor) (a .buffer .now) (a .m) (c .refused3 .result) (is-good g) run out) (c .refused3 .ensures)
 
 pub run-spec : {M : Type 1} → statement M
 run-spec =
@@ -161,17 +148,15 @@ run-spec =
     answer-requires
     returns-2
     enum-told-2
-    refused-requires-2
-    returns-3
     counter-at-requires
     enum-known-counter
     plan-of-requires
     run-on-requires
     enum-told-3
-    refused-requires-3
+    refused-requires-2
     enum-told-4
-    refused-requires-4
+    refused-requires-3
     same-length
+    returns-3
     returns-4
-    returns-5
-    returns-6)
+    returns-5)

@@ -2,7 +2,7 @@
 -- Assumes nothing.
 use mathlib.Core.Path.{refl}
 use Rattle.rule.specs.Raw.{RawLists, Raw, rawLists, raw}
-use Rattle.rule.proofs.CheckLaws.{no-row, row, all-rows, mixed-by, misplaced-by}
+use Rattle.rule.proofs.CheckLaws.{no-row, row, all-rows, mixed-by, misplaced-by, list-misplaced-by}
 use borrow.Author.Needs.{needs}
 use Rattle.validator.proofs.validate_rrule.verdict_of.Statement.{statement}
 use Rattle.validator.proofs.validate_rrule.verdict_of.Tie as tie
@@ -22,13 +22,25 @@ has-nth-requires c κs = search needs
 has-every-requires : tie.Need-has-every-requires
 has-every-requires c κs = search needs
 
+has-nought-requires : tie.Need-has-nought-requires
+has-nought-requires c κs = search needs
+
+count-and-until-requires : tie.Need-count-and-until-requires
+count-and-until-requires c κs = search needs
+
+is-misplaced-requires : tie.Need-is-misplaced-requires
+is-misplaced-requires c κs = search needs
+
 until-out-requires : tie.Need-until-out-requires
 until-out-requires c κs = search needs
 
 -- the calls from the last to the first, the rows and then the tests; then row by row
 returns : tie.Need-returns
 returns c =
-    let positions = c in
+    let lists = c in
+    let bounded = lists .before in
+    let nought = bounded .before in
+    let positions = nought .before in
     let nth = positions .before in
     let mixed = nth .before in
     let order = mixed .before in
@@ -38,7 +50,10 @@ returns c =
     let wkst = start .before in
     let frequency = wkst .before in
     let until-out = frequency .before in
-    let has-every = until-out .before in
+    let is-misplaced = until-out .before in
+    let count-and-until = is-misplaced .before in
+    let has-nought = count-and-until .before in
+    let has-every = has-nought .before in
     let has-nth = has-every .before in
     let positions-alone = has-nth .before in
     let not-rising = positions-alone .before in
@@ -57,7 +72,10 @@ returns c =
     let r7 = row r6 (mixed .or-refused7 .ensures) (mixed-by l (has-every .has-every .ensures) (has-nth .has-nth .ensures)) in
     let r8 = row r7 (nth .or-refused8 .ensures) (misplaced-by (a .freq) l (has-nth .has-nth .ensures)) in
     let r9 = row r8 (positions .or-refused9 .ensures) (positions-alone .positions-alone .ensures) in
-    all-rows r9
+    let r10 = row r9 (nought .or-refused10 .ensures) (has-nought .has-nought .ensures) in
+    let r11 = row r10 (bounded .or-refused11 .ensures) (count-and-until .count-and-until .ensures) in
+    let r12 = row r11 (lists .or-refused12 .ensures) (list-misplaced-by (a .freq) l (is-misplaced .is-misplaced .ensures)) in
+    all-rows r12
 
 pub verdict-of-spec : {M : Type 1} → statement M
 verdict-of-spec =
@@ -68,7 +86,13 @@ verdict-of-spec =
     positions-alone-requires
     has-nth-requires
     has-every-requires
+    has-nought-requires
+    count-and-until-requires
+    is-misplaced-requires
     until-out-requires
+    (λ c κs. search needs)
+    (λ c κs. search needs)
+    (λ c κs. search needs)
     (λ c κs. search needs)
     (λ c κs. search needs)
     (λ c κs. search needs)
