@@ -33,8 +33,8 @@ function name_values(    names, i) {
 function name_ranges(    i) {
     add_number("freq", 0, 255, "a frequency is yearly, monthly, weekly, daily, hourly, minutely or secondly, or 0 to 6")
     add_number("wkst", 0, 255, "a week begins on mo, tu, we, th, fr, sa or su, or 0 to 6")
-    add_number("interval", 0, 65535, "interval is a number from 0 to 65535")
-    add_number("count", 0, "4294967295", "count is a number from 0 to 4294967295")
+    add_number("interval", 0, 65535, "interval is a number from 1 to 65535")
+    add_number("count", 0, "4294967295", "count is a number from 1 to 4294967295")
     add_number("room", 0, 4096, "room is a number from 0 to 4096")
     add_number("moves", 0, "4294967295", "moves is a number from 0 to 4294967295")
     add_number("calls", 1, 65535, "calls is a number from 1 to 65535")
