@@ -6,7 +6,8 @@
  * A row is a rule from 2024-01-01T00:00:00Z. Its call begins at the fresh cursor; a call with no move, which has the cost of
  * reading the record and the period of the start, is taken off, and the rest is divided by the moves made. A move that ends
  * by NoTick isn't counted as made; there the rest is its cost. Full lists are BYMONTH, BYMONTHDAY, BYYEARDAY and BYWEEKNO with
- * every entry, and BYSETPOS=1; their INTERVAL makes each move end in another year.
+ * every entry, as far as the frequency may have them, and BYSETPOS=1; WEEKLY may have BYMONTH alone of these, and has BYDAY
+ * with every weekday. Their INTERVAL makes each move end in another year.
  */
 #include <inttypes.h>
 #include <stdio.h>
@@ -35,24 +36,25 @@ struct row {
 
 #define NO_LIST {MONTHS, 0, 0}
 #define NO_DAY {MONTHS, 2, 2}, {MONTH_DAYS, 30, 30}
-#define ALL_DAYS {MONTHS, 1, 12}, {MONTH_DAYS, -31, 31}, {YEAR_DAYS, -366, 366}, {WEEK_NUMBERS, -53, 53}, {POSITIONS, 1, 1}
+#define MONTHS_AND_DAYS {MONTHS, 1, 12}, {MONTH_DAYS, -31, 31}, {POSITIONS, 1, 1}
+#define ALL_OF_THE_WEEK {MONTHS, 1, 12}, {WEEKDAYS, 0, 6}, {POSITIONS, 1, 1}
 
 static const struct row rows[] = {
     {"YEARLY", YOMAVELUDGE_YEARLY, 1, 100, {NO_LIST}},
     {"YEARLY;BYMONTH=2;BYMONTHDAY=30", YOMAVELUDGE_YEARLY, 1, 100, {NO_DAY}},
-    {"YEARLY, full lists", YOMAVELUDGE_YEARLY, 1, 100, {ALL_DAYS}},
+    {"YEARLY, full lists", YOMAVELUDGE_YEARLY, 1, 100, {MONTHS_AND_DAYS, {YEAR_DAYS, -366, 366}, {WEEK_NUMBERS, -53, 53}}},
     {"MONTHLY", YOMAVELUDGE_MONTHLY, 1, 1000, {NO_LIST}},
     {"MONTHLY;BYMONTH=2;BYMONTHDAY=30", YOMAVELUDGE_MONTHLY, 1, 1000, {NO_DAY}},
-    {"MONTHLY;INTERVAL=13, full lists", YOMAVELUDGE_MONTHLY, 13, 1000, {ALL_DAYS}},
+    {"MONTHLY;INTERVAL=13, full lists", YOMAVELUDGE_MONTHLY, 13, 1000, {MONTHS_AND_DAYS}},
     {"WEEKLY", YOMAVELUDGE_WEEKLY, 1, 1000, {NO_LIST}},
-    {"WEEKLY;BYMONTH=2;BYMONTHDAY=30", YOMAVELUDGE_WEEKLY, 1, 1000, {NO_DAY}},
-    {"WEEKLY;INTERVAL=53, full lists", YOMAVELUDGE_WEEKLY, 53, 1000, {ALL_DAYS}},
+    {"WEEKLY;BYDAY=MO;BYSETPOS=2", YOMAVELUDGE_WEEKLY, 1, 1000, {{WEEKDAYS, 0, 0}, {POSITIONS, 2, 2}}},
+    {"WEEKLY;INTERVAL=53, full lists", YOMAVELUDGE_WEEKLY, 53, 1000, {ALL_OF_THE_WEEK}},
     {"DAILY", YOMAVELUDGE_DAILY, 1, 1000, {NO_LIST}},
     {"DAILY;BYMONTH=2;BYMONTHDAY=30", YOMAVELUDGE_DAILY, 1, 1000, {NO_DAY}},
-    {"DAILY;INTERVAL=367, full lists", YOMAVELUDGE_DAILY, 367, 1000, {ALL_DAYS}},
+    {"DAILY;INTERVAL=367, full lists", YOMAVELUDGE_DAILY, 367, 1000, {MONTHS_AND_DAYS}},
     {"HOURLY", YOMAVELUDGE_HOURLY, 1, 1000, {NO_LIST}},
     {"HOURLY;BYMONTH=2;BYMONTHDAY=30;BYHOUR=23", YOMAVELUDGE_HOURLY, 1, 1000, {NO_DAY, {HOURS, 23, 23}}},
-    {"HOURLY;INTERVAL=8785, full lists", YOMAVELUDGE_HOURLY, 8785, 1000, {ALL_DAYS}},
+    {"HOURLY;INTERVAL=8785, full lists", YOMAVELUDGE_HOURLY, 8785, 1000, {MONTHS_AND_DAYS, {YEAR_DAYS, -366, 366}}},
     {"MINUTELY", YOMAVELUDGE_MINUTELY, 1, 1000, {NO_LIST}},
     {"MINUTELY;BYHOUR=3;BYMINUTE=0", YOMAVELUDGE_MINUTELY, 1, 1000, {{HOURS, 3, 3}, {MINUTES, 0, 0}}},
     {"MINUTELY;BYMONTH=2;BYMONTHDAY=30;BYHOUR=23", YOMAVELUDGE_MINUTELY, 1, 1000, {NO_DAY, {HOURS, 23, 23}}},
@@ -74,7 +76,7 @@ static size_t fill(const struct range *range, int16_t *list)
 {
     size_t length = 0;
     for (int entry = range->first; entry <= range->last; entry++) {
-        if (entry != 0 || range->list == HOURS || range->list == MINUTES || range->list == SECONDS) {
+        if (entry != 0 || (range->list >= WEEKDAYS && range->list <= SECONDS)) {
             list[length++] = (int16_t)entry;
         }
     }
@@ -91,6 +93,7 @@ static void check_row(const struct row *row, uint8_t *record)
             k[list] = fill(&row->ranges[i], e[list]);
         }
     }
+    k[NTHS] = k[WEEKDAYS]; /* each n is 0: every such weekday */
     uint8_t answer = yomaveludge_check(
         row->frequency, row->interval, 0, 0, 0, 0, 0, 1704067200,
         e[0], k[0], e[1], k[1], e[2], k[2], e[3], k[3], e[4], k[4],

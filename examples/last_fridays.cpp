@@ -7,6 +7,7 @@
 
 struct Rule {
     std::uint8_t frequency;
+    std::uint64_t until; // 0 for none
     std::vector<std::int16_t> nths;
     std::vector<std::int16_t> weekdays;
     std::vector<std::int16_t> hours;
@@ -17,7 +18,7 @@ static std::uint8_t check(const Rule &rule, std::vector<std::uint8_t> &record)
 {
     const std::vector<std::int16_t> none;
     return yomaveludge_check(
-        rule.frequency, 1, 1, 3, 0, 0, 0, 1704085200,
+        rule.frequency, 1, 1, 3, rule.until != 0, rule.until, 0, 1704085200,
         none.data(), 0, none.data(), 0, none.data(), 0, none.data(), 0,
         rule.nths.data(), rule.nths.size(), rule.weekdays.data(), rule.weekdays.size(),
         rule.hours.data(), rule.hours.size(), none.data(), 0, none.data(), 0, none.data(), 0,
@@ -48,13 +49,14 @@ static void list(const Rule &rule)
 
 int main()
 {
-    list({YOMAVELUDGE_MONTHLY, {-1}, {4}, {}});
-    list({7, {-1}, {4}, {}});
-    list({YOMAVELUDGE_MONTHLY, {-1}, {4}, {24}});
-    list({YOMAVELUDGE_MONTHLY, {-1}, {4}, {9, 8}});
-    list({YOMAVELUDGE_WEEKLY, {-1}, {4}, {}});
+    list({YOMAVELUDGE_MONTHLY, 0, {-1}, {4}, {}});
+    list({7, 0, {-1}, {4}, {}});
+    list({YOMAVELUDGE_MONTHLY, 0, {-1}, {4}, {24}});
+    list({YOMAVELUDGE_MONTHLY, 0, {-1}, {4}, {9, 8}});
+    list({YOMAVELUDGE_WEEKLY, 0, {-1}, {4}, {}});
+    list({YOMAVELUDGE_MONTHLY, 1711688400, {-1}, {4}, {}});
     std::vector<std::uint8_t> none;
     std::printf("%d for frequency 7, %d for a good rule: no record to write to\n",
-        check({7, {-1}, {4}, {}}, none), check({YOMAVELUDGE_MONTHLY, {-1}, {4}, {}}, none));
+        check({7, 0, {-1}, {4}, {}}, none), check({YOMAVELUDGE_MONTHLY, 0, {-1}, {4}, {}}, none));
     return 0;
 }

@@ -120,12 +120,23 @@ struct lists {
     size_t lengths[LISTS];
 };
 
-static struct lists lend_lists(void)
+/* Whether a rule of this frequency may have the list. */
+static int may_have(uint8_t frequency, unsigned which)
+{
+    switch (which) {
+    case 1: return frequency != YOMAVELUDGE_WEEKLY;
+    case 2: return frequency < YOMAVELUDGE_MONTHLY || frequency > YOMAVELUDGE_DAILY;
+    case 3: return frequency == YOMAVELUDGE_YEARLY;
+    default: return 1;
+    }
+}
+
+static struct lists lend_lists(uint8_t frequency)
 {
     int16_t entries[LISTS][8] = {{0}};
     struct lists lent;
     for (unsigned i = 0; i < LISTS; i++) {
-        lent.lengths[i] = random_list(i, entries[i]);
+        lent.lengths[i] = may_have(frequency, i) || below(20) == 0 ? random_list(i, entries[i]) : 0;
     }
     lent.lengths[4] = random_days(entries[4], entries[5]);
     lent.lengths[5] = below(40) == 0 ? below(9) : lent.lengths[4];
@@ -152,11 +163,11 @@ static struct numbers random_numbers(void)
     struct numbers n;
     n.start = below(30) == 0 ? next_random() : next_random() % 253402300800u;
     n.until = below(30) == 0 ? next_random() : n.start + next_random() % 1000000000u;
-    n.count = below(99);
-    n.interval = (uint16_t)below(below(9) == 0 ? 65536 : 5);
+    n.count = below(30) == 0 ? 0 : 1 + below(99);
+    n.interval = (uint16_t)(below(30) == 0 ? 0 : 1 + below(below(9) == 0 ? 65535 : 4));
     n.frequency = (uint8_t)below(below(30) == 0 ? 256 : 7);
     n.counted = (uint8_t)below(3);
-    n.bounded = (uint8_t)below(3);
+    n.bounded = (uint8_t)(n.counted == 0 || below(20) == 0 ? below(3) : 0);
     n.week_start = (uint8_t)below(below(30) == 0 ? 256 : 7);
     return n;
 }
@@ -171,14 +182,22 @@ static uint8_t call_check(const struct numbers *n, const struct lists *l, uint8_
         e[5], k[5], e[6], k[6], e[7], k[7], e[8], k[8], e[9], k[9], record, length);
 }
 
-/* An accepted record goes into the pool, with its fresh cursor. */
+/* An accepted record goes into the pool, with its fresh cursor. That one is running: with no slot a run says More. */
 static void keep(const uint8_t *record)
 {
+    uint8_t *cursor = cursors[pooled % POOL];
+    uint32_t made;
+    size_t handed;
+    uint8_t cause;
     memcpy(pool[pooled % POOL], record, YOMAVELUDGE_RECORD_LENGTH);
-    uint8_t answer = yomaveludge_fresh(
-        record, YOMAVELUDGE_RECORD_LENGTH, cursors[pooled % POOL], YOMAVELUDGE_CURSOR_LENGTH);
+    uint8_t answer = yomaveludge_fresh(record, YOMAVELUDGE_RECORD_LENGTH, cursor, YOMAVELUDGE_CURSOR_LENGTH);
     if (answer != YOMAVELUDGE_ACCEPTED) {
         fail("fresh: a checked record is refused", answer);
+    }
+    answer = yomaveludge_run(
+        record, YOMAVELUDGE_RECORD_LENGTH, cursor, YOMAVELUDGE_CURSOR_LENGTH, NULL, 0, 0, &made, &handed, &cause);
+    if (answer != YOMAVELUDGE_MORE) {
+        fail("fresh: the cursor isn't running", answer);
     }
     pooled++;
 }
@@ -196,14 +215,14 @@ static uint8_t expected_check(const struct numbers *numbers, const struct lists 
 static void try_check(void)
 {
     struct numbers numbers = random_numbers();
-    struct lists lent = lend_lists();
+    struct lists lent = lend_lists(numbers.frequency);
     size_t length = below(20) == 0 ? below(6000) : YOMAVELUDGE_RECORD_LENGTH;
     uint8_t before[6000];
     add_noise(before, length);
     uint8_t *record = lend(before, length);
     uint8_t answer = call_check(&numbers, &lent, record, length);
     answers[0][answer]++;
-    if (answer > YOMAVELUDGE_POSITIONS_ALONE && answer != YOMAVELUDGE_BAD_RECORD) {
+    if (answer > YOMAVELUDGE_LIST_MISPLACED && answer != YOMAVELUDGE_BAD_RECORD) {
         fail("check: no such answer", answer);
     }
     if (answer != expected_check(&numbers, &lent, length)) {
@@ -316,6 +335,9 @@ static void judge_run(const struct call *c)
     }
     if ((c->answer == YOMAVELUDGE_ENDED) != (c->cause != YOMAVELUDGE_RUNNING) || c->cause > YOMAVELUDGE_BY_RANGE) {
         fail("run: the cause", c->cause);
+    }
+    if (c->cause == YOMAVELUDGE_BY_INTERVAL && memcmp(c->cursor, c->cursor_before, c->cursor_length) != 0) {
+        fail("run: ended by INTERVAL 0, and the cursor isn't the one given", c->cause);
     }
     for (size_t i = 0; i < c->handed; i++) {
         if (c->buffer[i] > 253402300799u || (i != 0 && c->buffer[i] <= c->buffer[i - 1])) {

@@ -37,7 +37,11 @@ extern "C" {
 
 /* The version of this header and of the library that goes with it: one number, which goes up with each change that a caller
  * can see. */
-#define YOMAVELUDGE_VERSION 1
+#define YOMAVELUDGE_VERSION 2
+
+/* New in version 2: the check also refuses INTERVAL 0 and COUNT 0 (10), COUNT beside UNTIL (11), and lists beside a frequency
+ * with which RFC 5545 forbids them (12). A rule that is still accepted has the same record, and lists what it listed. The
+ * stored record of one that is refused now is refused with 20: check the rule anew, and show the number that it gets. */
 
 /* The versions of the bytes of a record and of a cursor. Each goes up with each change of its layout or of its meaning; a
  * cursor's also where a rule that is accepted before and after would list other instants. Bytes of any other version are
@@ -81,6 +85,9 @@ enum {
     YOMAVELUDGE_MIXED_DAYS = 7,       /* BYDAY has entries with n = 0 and with n not 0 */
     YOMAVELUDGE_NTH_MISPLACED = 8,    /* n not 0 in BYDAY, with BYWEEKNO or a frequency neither YEARLY nor MONTHLY */
     YOMAVELUDGE_POSITIONS_ALONE = 9,  /* BYSETPOS, and every other list empty */
+    YOMAVELUDGE_NOUGHT = 10,          /* INTERVAL is 0, or COUNT is given and is 0 */
+    YOMAVELUDGE_COUNT_AND_UNTIL = 11, /* COUNT and UNTIL are both given */
+    YOMAVELUDGE_LIST_MISPLACED = 12,  /* BYWEEKNO outside YEARLY, BYYEARDAY with MONTHLY to DAILY, or BYMONTHDAY with WEEKLY */
     YOMAVELUDGE_BAD_RECORD = 20,      /* the bytes are no record that an accepted check yields, or have another length */
     YOMAVELUDGE_BAD_CURSOR = 21       /* the bytes are no cursor that is well formed for the record, or have another length */
 };
@@ -99,7 +106,7 @@ enum {
 enum {
     YOMAVELUDGE_RUNNING = 0,     /* it isn't */
     YOMAVELUDGE_BY_COUNT = 1,    /* COUNT instants were handed out */
-    YOMAVELUDGE_BY_INTERVAL = 2, /* INTERVAL is 0 */
+    YOMAVELUDGE_BY_INTERVAL = 2, /* no listing ends so any more; a cursor that says it comes back as it is */
     YOMAVELUDGE_BY_UNTIL = 3,    /* the next one is after UNTIL */
     YOMAVELUDGE_BY_NO_TICK = 4,  /* no later period can have one, however far the calendar runs */
     YOMAVELUDGE_BY_RANGE = 5     /* the next period begins after 9999 */
@@ -119,6 +126,10 @@ static inline const char *yomaveludge_meaning(uint8_t answer)
     case YOMAVELUDGE_MIXED_DAYS: return "refused: BYDAY has entries with n = 0 and with n not 0";
     case YOMAVELUDGE_NTH_MISPLACED: return "refused: n not 0 in BYDAY, with BYWEEKNO or a frequency neither YEARLY nor MONTHLY";
     case YOMAVELUDGE_POSITIONS_ALONE: return "refused: BYSETPOS, and every other list empty";
+    case YOMAVELUDGE_NOUGHT: return "refused: INTERVAL is 0, or COUNT is given and is 0";
+    case YOMAVELUDGE_COUNT_AND_UNTIL: return "refused: COUNT and UNTIL are both given";
+    case YOMAVELUDGE_LIST_MISPLACED:
+        return "refused: BYWEEKNO outside YEARLY, BYYEARDAY with MONTHLY, WEEKLY or DAILY, or BYMONTHDAY with WEEKLY";
     case YOMAVELUDGE_BAD_RECORD: return "refused: the bytes are no record of this version that an accepted check yields";
     case YOMAVELUDGE_BAD_CURSOR: return "refused: the bytes are no cursor of this version that is well formed for the record";
     case YOMAVELUDGE_MORE: return "stopped: the buffer is full";
@@ -134,7 +145,7 @@ static inline const char *yomaveludge_cause_meaning(uint8_t cause)
     switch (cause) {
     case YOMAVELUDGE_RUNNING: return "not at its end";
     case YOMAVELUDGE_BY_COUNT: return "COUNT instants were handed out";
-    case YOMAVELUDGE_BY_INTERVAL: return "INTERVAL is 0";
+    case YOMAVELUDGE_BY_INTERVAL: return "the cursor given says so, by INTERVAL 0";
     case YOMAVELUDGE_BY_UNTIL: return "the next instant is after UNTIL";
     case YOMAVELUDGE_BY_NO_TICK: return "no later period can have an instant";
     case YOMAVELUDGE_BY_RANGE: return "the next period begins after 9999";
@@ -144,14 +155,16 @@ static inline const char *yomaveludge_cause_meaning(uint8_t cause)
 
 /* The check of a rule.
  *
- *   counted, count   COUNT: absent where counted is 0, else count
- *   bounded, until   UNTIL: absent where bounded is 0, else the instant until
+ *   interval         INTERVAL, from 1 on; 1 where a rule doesn't name it
+ *   counted, count   COUNT: absent where counted is 0, else count, from 1 on
+ *   bounded, until   UNTIL: absent where bounded is 0, else the instant until; a rule has COUNT or UNTIL or neither
  *   the lists        BYMONTH 1..12; BYMONTHDAY -31..-1 and 1..31; BYYEARDAY -366..-1 and 1..366; BYWEEKNO -53..-1 and
  *                    1..53; BYDAY as two lists side by side, n (-53..53, 0 for every) and weekday (0..6); BYHOUR 0..23;
  *                    BYMINUTE and BYSECOND 0..59; BYSETPOS -366..-1 and 1..366. Each may be empty, and rises strictly;
- *                    BYDAY by n, then weekday.
+ *                    BYDAY by n, then weekday. BYWEEKNO goes with YEARLY alone, BYYEARDAY not with MONTHLY, WEEKLY and
+ *                    DAILY, and BYMONTHDAY not with WEEKLY.
  *
- * Promise: it answers the lowest of 1 to 9 that applies; where none does, 20 if record_length isn't
+ * Promise: it answers the lowest of 1 to 12 that applies; where none does, 20 if record_length isn't
  * YOMAVELUDGE_RECORD_LENGTH, else 0. With 0 the record's bytes are the rule, filled in from its start; with any other number
  * they are as they were.
  */
@@ -173,8 +186,8 @@ uint8_t yomaveludge_check(
 /* The first cursor of a record.
  *
  * Promise: it answers 20 where the record's bytes are none that an accepted check yields; else 21 where cursor_length isn't
- * YOMAVELUDGE_CURSOR_LENGTH; else 0. With 0 the cursor's bytes are the fresh cursor: ended by Count if COUNT is 0, else by
- * Interval if INTERVAL is 0, else running. With any other number they are as they were.
+ * YOMAVELUDGE_CURSOR_LENGTH; else 0. With 0 the cursor's bytes are the fresh cursor, which is running, with nothing handed
+ * out. With any other number they are as they were.
  */
 uint8_t yomaveludge_fresh(const uint8_t *record, size_t record_length, uint8_t *cursor, size_t cursor_length);
 
@@ -191,7 +204,7 @@ uint8_t yomaveludge_fresh(const uint8_t *record, size_t record_length, uint8_t *
  * budget; *cause is 0 unless ended. The cursor's bytes are those of the place reached: the next run goes on there, in this
  * process or another. From the fresh cursor on, however the calls are cut, they hand out the instants that satisfy the rule,
  * each once, rising, with none left out up to the last. An end by Count has handed out COUNT of them; after any other end
- * none is left (INTERVAL 0 aside, which hands out nothing).
+ * none is left.
  *
  * Cost, as measured on one machine (docs/PANEL.md has the table; examples/costs.c measures yours): a call takes up to 0.01 ms,
  * and up to 0.6 ms in the period of the start; an instant up to 0.0001 ms; a move up to 0.01 ms, but up to 0.3 ms with SECONDLY
