@@ -2,8 +2,9 @@
 import re
 from dataclasses import dataclass
 from functools import cached_property
+from itertools import islice
 
-from listings import DAY, ENDED, GAVE_UP, LAST, Listing, first_difference, model, rust_listing
+from listings import COMPARED, DAY, ENDED, GAVE_UP, LAST, Listing, first_difference, model, rust_listing
 from moves import CARRIED, NEVER_MET, SKIPPED, wrong_moves
 from programs import COMPARE, SLOW
 
@@ -26,9 +27,9 @@ ORDER = "Lists in any order, and with entries twice"
 POSITIONS_ALONE = "BYSETPOS alone"
 POSITIONS_OVERLOOKED = "BYSETPOS beside negative month days, SECONDLY"
 MONTH_DAYS_RANGE = "BYMONTHDAY 0 and below -31"
-WEEKLY_MONTH_DAYS = "WEEKLY with BYMONTHDAY"
-YEAR_DAYS = "BYYEARDAY with MONTHLY, WEEKLY and DAILY"
-WEEK_NUMBERS = "BYWEEKNO with other than YEARLY"
+NOUGHT = "INTERVAL 0 and COUNT 0"
+COUNT_AND_UNTIL = "COUNT with UNTIL"
+WEEKLY_MONTH_DAYS = "WEEKLY with negative month days"
 POSITIONS_RANGE = "The range of BYSETPOS"
 NTH_RANGE = "The range of n in BYDAY"
 UNTIL_BEFORE = "UNTIL before the start"
@@ -248,9 +249,6 @@ REFUSED_BY_THE_RUST = {
     UNTIL_BEFORE: lambda rule: rule.until is not None and rule.until < rule.start,
     POSITIONS_RANGE: lambda rule: any(abs(p) > HIGHEST_POSITION[rule.freq] for p in rule.bysetpos),
     POSITIONS_OVERLOOKED: positions_seem_alone,
-    WEEKLY_MONTH_DAYS: lambda rule: rule.freq == WEEKLY and any(day > 0 for day in rule.bymonthday),
-    YEAR_DAYS: lambda rule: rule.freq in (MONTHLY, WEEKLY, DAILY) and rule.byyearday != [],
-    WEEK_NUMBERS: lambda rule: rule.freq != YEARLY and rule.byweekno != [],
     NTH_RANGE: lambda rule: any(n != 0 and not NTH[rule.freq][0] <= n <= NTH[rule.freq][1] for n, _ in rule.byday),
 }
 
@@ -262,13 +260,17 @@ def refused_by_the_rust(rule):
 # What we alone refuse: the entry says as what other rule the Rust reads it. Nothing where no rule of ours says it.
 
 EVERY_DAY = [(0, weekday) for weekday in range(7)]
-NOTHING = {"count": 0}
+# 30 February of one year: nothing is listed, and that without a move, so that the Rust's listing is compared to its end
+NOTHING = {
+    "freq": YEARLY, "interval": 65535, "count": None, "until": None,
+    **{key: [] for key in model.LISTS}, "bymonth": [2], "bymonthday": [30],
+}
 
 
 def without_odd_month_days(rule):
     left = [day for day in rule.bymonthday if day > 0 or -31 <= day < 0]
     nothing_matches = not left and any(day < -31 for day in rule.bymonthday)
-    return {**(NOTHING if nothing_matches else {}), "bymonthday": left}
+    return NOTHING if nothing_matches else {"bymonthday": left}
 
 
 def sorted_lists(rule):
@@ -294,6 +296,23 @@ def nth_as_year_days(rule):
     return {"byday": [(0, weekday)], "byyearday": days}
 
 
+def negative_days_weekly(rule):
+    return rule.freq == WEEKLY and rule.bymonthday != [] and all(day < 0 for day in rule.bymonthday)
+
+
+def day_by_day(rule):
+    """Every week, and of each week all: the same as DAILY."""
+    return {"freq": DAILY} if rule.interval == 1 and not rule.bysetpos else None
+
+
+def first_end(rule):
+    """COUNT or UNTIL alone, the one that comes first. Of COUNT no more matters than is compared."""
+    filled = model.Rule(written(rule))
+    filled.fill_in()
+    listed = sum(1 for _ in islice(model.satisfying(filled), min(rule.count, COMPARED)))
+    return {"until": None} if listed == rule.count else {"count": None}
+
+
 def has_nth(rule):
     return any(n != 0 for n, _ in rule.byday)
 
@@ -308,13 +327,16 @@ def odd_month_days(rule):
 
 # entry: when it applies, and what it changes in the rule; the order is that of the changes
 READ_OTHERWISE = {
+    NOUGHT: (lambda rule: rule.interval == 0 or rule.count == 0, lambda rule: NOTHING),
     MONTH_DAYS_RANGE: (odd_month_days, without_odd_month_days),
     ORDER: (lambda rule: any(not model.rises(getattr(rule, key)) for key in model.LISTS), sorted_lists),
     MIXED: (is_mixed, both_kinds),
     NTH_FROM_WEEKLY: (lambda rule: rule.freq >= WEEKLY and has_nth(rule), lambda rule: {"byday": EVERY_DAY}),
     NTH_BESIDE_WEEKS: (lambda rule: has_nth(rule) and rule.byweekno != [], nth_as_year_days),
     POSITIONS_ALONE: (lambda rule: model.refusal(rule) == 9, lambda rule: {"bysecond": [rule.start % 60]}),
-    OUT_OF_RANGE: (lambda rule: rule.until is not None and rule.until > LAST, lambda rule: {"until": LAST}),
+    OUT_OF_RANGE: (lambda rule: rule.until is not None and rule.until > LAST, lambda rule: {"until": None}),
+    WEEKLY_MONTH_DAYS: (negative_days_weekly, day_by_day),
+    COUNT_AND_UNTIL: (lambda rule: rule.count is not None and rule.until is not None, first_end),
 }
 
 

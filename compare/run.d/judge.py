@@ -2,10 +2,9 @@
 from collections import Counter
 
 import entries
-from listings import BUDGET, ENDED, GAVE_UP, LAST, first_difference, how_far, model, our_listing, rust_listing
+from listings import BUDGET, COMPARED, ENDED, GAVE_UP, LAST, first_difference, how_far, model, our_listing, rust_listing
 from programs import SLOW, ask
 
-ROOM = 64
 # moves by frequency: enough for the whole range, or for the Rust's rounds, where a move is cheap
 DEEP_BUDGET = (10000, 100000, 100000, 100000, 20000, 5000, 2000)
 BUDGET_OF_MOVES = (500, 4000, 10000, 10000, 5000, 2000, 200)
@@ -21,18 +20,16 @@ class Pair:
 
     def __init__(self, line, deep):
         self.line, self.deep = line, deep
-        self.rule = model.Rule(line)
-        self.frequency = self.rule.freq
-        self.refusal = model.refusal(self.rule)
-        self.entries, self.read_as = entries.as_the_rust_reads(self.rule) if self.refusal else ([], line)
-        if self.read_as and self.refusal:
-            self.rule = model.Rule(self.read_as)
+        self.given = model.Rule(line)
+        self.refusal = model.refusal(self.given)
+        self.entries, self.read_as = entries.as_the_rust_reads(self.given) if self.refusal else ([], line)
+        self.rule = model.Rule(self.read_as) if self.read_as else self.given
         self.ours = self.theirs = self.difference = None
 
     def our_lines(self):
         """The rule; and where we refuse it, the rule that the Rust makes of it."""
         moves = (DEEP_BUDGET if self.deep else BUDGET_OF_MOVES)[self.rule.freq]
-        words = f" room={ROOM} moves={moves}"
+        words = f" room={COMPARED} moves={moves}"
         lines = [self.line] if self.refusal else []
         return [line + words for line in lines + ([self.read_as] if self.read_as else [])]
 
@@ -40,7 +37,7 @@ class Pair:
         self.our_answers = answers
         if self.read_as and answers[-1] != SLOW and not answers[-1].startswith(("refused", "bad")):
             self.ours = our_listing(self.rule, answers[-1])
-        room = ROOM if self.deep or not self.ours or self.ours.stop != BUDGET else len(self.ours.instants)
+        room = COMPARED if self.deep or not self.ours or self.ours.stop != BUDGET else len(self.ours.instants)
         self.rust_line = f"{self.line} max={room} cap={LAST} at=1"
 
     def take_theirs(self, answer):
@@ -57,10 +54,11 @@ class Judge:
         self.total = 0
         self.classes, self.explained, self.with_model = Counter(), Counter(), Counter()
         self.parts = Counter()  # of the rules whose listings were compared
+        self.refusals = Counter()  # by number
         self.unlisted = []
 
     def count(self, pair, name):
-        self.classes[name, pair.frequency] += 1
+        self.classes[name, pair.given.freq] += 1
 
     def wrong(self, pair, why):
         self.count(pair, "unlisted disagreement")
@@ -70,6 +68,8 @@ class Judge:
         self.total += 1
         if pair.refusal and pair.our_answers[0] != f"refused {pair.refusal}":
             return self.wrong(pair, f"the model refuses it: {pair.refusal}")
+        if pair.refusal:
+            self.refusals[pair.refusal] += 1
         if SLOW in pair.our_answers or pair.rust_answer == SLOW:
             who = "the Rust takes" if pair.rust_answer == SLOW else "we take"
             return self.count(pair, f"not at all: {who} too long")
@@ -79,7 +79,7 @@ class Judge:
             return self.judge_refused(pair)
         if pair.theirs is None:
             return self.wrong(pair, "the Rust panics")
-        if entries.refused_by_the_rust(model.Rule(pair.line)):
+        if entries.refused_by_the_rust(pair.given):
             return self.wrong(pair, "an entry says that the Rust refuses it")
         if pair.refusal:
             return self.judge_read_otherwise(pair)
@@ -99,7 +99,7 @@ class Judge:
         if not pair.entries:
             return self.wrong(pair, "we alone refuse it, and no entry says so")
         if pair.read_as is None:
-            if pair.theirs.instants and pair.theirs.instants[0] < model.Rule(pair.line).start:
+            if pair.theirs.instants and pair.theirs.instants[0] < pair.given.start:
                 return self.wrong(pair, "the Rust lists what is before the start")
             self.explained.update(pair.entries)
             return self.count(pair, "not at all: we alone refuse")
@@ -121,7 +121,7 @@ class Judge:
 
     def count_parts(self, pair):
         """Which parts the rules have whose listings are compared over some stretch."""
-        rule = pair.rule
+        rule = pair.given
         if pair.ours.stop == BUDGET and not pair.ours.instants and not pair.deep:
             return
         self.parts.update(key.upper() for key in (*model.LISTS, "count", "until") if getattr(rule, key) not in (None, []))
@@ -180,6 +180,7 @@ class Judge:
             print(f"{sum(counts):8}  {name}: " + ", ".join(f"{f} {n}" for f, n in zip(FREQUENCIES, counts) if n))
         print(f"{self.total:8}  rules in all")
         print("compared: " + ", ".join(f"{part} {n}" for part, n in sorted(self.parts.items())))
+        print("refused: " + ", ".join(f"{n} by {number}" for number, n in sorted(self.refusals.items())))
         print("entry, and how many rules it explains:")
         for entry in sorted(entries.named_entries() | self.explained.keys(), key=lambda e: -self.explained[e]):
             print(f"{self.explained[entry]:8}  {entry}")

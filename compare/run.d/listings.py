@@ -6,6 +6,7 @@ from programs import load
 
 model = load("model")
 DAY, LAST = model.DAY, model.LAST_INSTANT
+COMPARED = 64  # instants of a rule, at most
 ENDED, ROOM, BUDGET, GAVE_UP = "ended", "room", "budget", "gave up"
 
 

@@ -22,8 +22,16 @@ PERIODS, RUN, LISTS, REFUSALS, FILLING = "rule/Periods", "rule/Run", "rule/Lists
 CURSORS, GIVEN, FAULTS, CALLS = "machine/Cursors", "machine/Given", "machine/Faults", "machine/Calls"
 
 
+# The lists that are refused with these frequencies: no rule shows how they are read there.
+REFUSED_WITH = {"week-number": FREQUENCIES[1:], "year-day": FREQUENCIES[1:4], "month-day": FREQUENCIES[2:3]}
+
+
 def at(frequency):
     return f"same (r .freq) Frequency.{frequency}"
+
+
+def may_stand(name, frequency):
+    return frequency not in REFUSED_WITH.get(name, ())
 
 
 # A list passed over at a frequency: its test there always passes.
@@ -46,7 +54,8 @@ KEPT = "keeps (r .bysetpos) (candidates r k)"
 def passed_over():
     for freq in FREQUENCIES:
         for name, test in DAY_TESTS.items():
-            yield Version(f"{freq}: {name} passed over", Edit(DAYS, test, f"{at(freq)} || {test}", []), freq, f"by-{name}", freq)
+            if may_stand(name, freq):
+                yield Version(f"{freq}: {name} passed over", Edit(DAYS, test, f"{at(freq)} || {test}", []), freq, f"by-{name}", freq)
         for name, test in TIME_TESTS.items():
             yield Version(f"{freq}: {name} passed over", Edit(TIMES, test, f"({at(freq)} || {test})", [SAME]), freq, f"by-{name}", freq)
         case = "by-position-beyond" if freq == "Secondly" else "by-position"
@@ -90,6 +99,8 @@ kept r k =
 def one_ended():
     for freq in FREQUENCIES:
         for name, (whole, forward, backward) in ENDS.items():
+            if not may_stand(name, freq):
+                continue
             for told, rest, case in (("not forward", backward, f"by-{name}"), ("not from the end", forward, f"by-{name}-from-end")):
                 yield Version(f"{freq}: {name} {told}", Edit(DAYS, whole, f"(if {at(freq)} then {rest} else {whole})", []), freq, case, freq)
         for told, place, case in (("not forward", "negℤ (pos (n - j))", "by-position"), ("not from the end", "pos (j + 1)", "by-position-from-end")):
@@ -176,13 +187,14 @@ def fillings():
     old = f"bymonth = takes ({test}) (r .bymonth) (slotOf months (pos (date .month)));"
     new = f"bymonth = if {test} then mark (r .bymonth) (slotOf months (pos (date .month))) else r .bymonth;"
     yield Version("Yearly: month filled in though given", Edit(FILLING, old, new, []), "Filling", "yearly-in-months")
-    for field, case in (("byweekno", "by-week-number"), ("byyearday", "by-year-day"), ("bymonthday", "by-month-day"), ("byday", "by-day")):
+    for field, name in (("byweekno", "week-number"), ("byyearday", "year-day"), ("bymonthday", "month-day"), ("byday", "day")):
         old = "noDays r = isEmpty (r .byweekno) && (isEmpty (r .byyearday) && (isEmpty (r .bymonthday) && isEmpty (r .byday)))"
         for freq in FREQUENCIES[:3]:
             new = old.replace(f"isEmpty (r .{field})", f"({at(freq)} || isEmpty (r .{field}))")
             if freq == "Monthly" and field == "bymonthday" or freq == "Weekly" and field == "byday":
                 continue  # that list is the one to fill in, and it isn't empty
-            yield Version(f"{freq}: filled in beside {field}", Edit(FILLING, old, new, []), freq, case, freq)
+            if may_stand(name, freq):
+                yield Version(f"{freq}: filled in beside {field}", Edit(FILLING, old, new, []), freq, f"by-{name}", freq)
 
 
 # The numbers, and the tests of the check.
@@ -197,6 +209,9 @@ REFUSED = (  # number, name, the table of the grid that has it, and its test
     (7, "MixedDays", "mixed", "mixedDays (w .lists)"),
     (8, "NthMisplaced", "nth", "nthMisplaced (w .freq) (w .lists)"),
     (9, "PositionsAlone", "positions", "positionsAlone (w .lists)"),
+    (10, "Nought", "nought", "nought (w .interval) (w .count)"),
+    (11, "CountAndUntil", "count-and-until", "countAndUntil (w .count) (w .until)"),
+    (12, "ListMisplaced", "misplaced-weekno", "listMisplaced (w .freq) (w .lists)"),
 )
 RANGES = {
     "months": ("fromOne", 12, "entries-month"), "monthdays": ("eitherWay", 31, "entries-monthday"), "yeardays": ("eitherWay", 366, "entries-yearday"),
@@ -213,7 +228,7 @@ def numbers():
         new = f"refusalNumber Refusal.{a} = {j}\nrefusalNumber Refusal.{b} = {i}\n"
         yield Version(f"{i} and {j} exchanged", Edit(REFUSALS, old, new, []), "Refusals", table)
         old, new = f"    Refusal.{a} ∷\n    Refusal.{b} ∷\n", f"    Refusal.{b} ∷\n    Refusal.{a} ∷\n"
-        if i < 8:  # 8 needs a BYDAY and 9 has none
+        if i != 8:  # 8 needs a BYDAY and 9 has none
             yield Version(f"{j} before {i}", Edit(REFUSALS, old, new, []), "Refusals", "lowest")
     for i, name, table, test in REFUSED:
         line = f"applies Refusal.{name} w ="
@@ -290,6 +305,42 @@ def positions_alone():
         yield Version(f"9 beside {fields[0]}", Edit(REFUSALS, whole, new, []), "Refusals", "positions")
 
 
+# 10, 11 and 12.
+
+OF_COUNT = (  # what is told of it, its line, the line instead, and the table
+    ("INTERVAL 0 taken", "nought interval count = eqb interval 0 || countNought count", "nought interval count = countNought count", "nought"),
+    ("INTERVAL 1 refused", "= eqb interval 0 ||", "= ltb interval 2 ||", "nought"),
+    ("COUNT 0 taken", "nought interval count = eqb interval 0 || countNought count", "nought interval count = eqb interval 0", "nought"),
+    ("COUNT 1 refused", "countNought (Count.Times n) = eqb n 0", "countNought (Count.Times n) = ltb n 2", "nought"),
+    ("an absent COUNT is 0", "countNought Count.Absent = false", "countNought Count.Absent = true", "nought"),
+    ("COUNT alone refused", "countAndUntil count Until.Absent = false", "countAndUntil count Until.Absent = hasCount count", "count-and-until"),
+    ("UNTIL alone refused", "countAndUntil count (Until.At t) = hasCount count", "countAndUntil count (Until.At t) = true", "count-and-until"),
+    ("COUNT 1 beside UNTIL taken", "hasCount (Count.Times n) = true", "hasCount (Count.Times n) = ltb 1 n", "count-and-until"),
+)
+MISPLACED = {  # the list: its name, and its test
+    "weekno": ("week-number", "weeknos && not (eqb freq 0)"),
+    "yearday": ("year-day", "yeardays && (eqb freq 3 || (eqb freq 2 || eqb freq 1))"),
+    "monthday": ("month-day", "monthdays && eqb freq 2"),
+}
+
+
+def counts():
+    for told, old, new, table in OF_COUNT:
+        yield Version(told, Edit(REFUSALS, old, new, []), "Refusals", table)
+
+
+def misplaced():
+    for field, (name, test) in MISPLACED.items():
+        table = f"misplaced-{field}"
+        for number, freq in enumerate(FREQUENCIES):
+            here = f"eqb freq {number}"
+            told, new = ("refused", f"{test} || {field}s && {here}") if may_stand(name, freq) else ("taken", f"{test} && not ({here})")
+            yield Version(f"{freq}: {name} {told}", Edit(REFUSALS, test, f"({new})", []), "Refusals", table, list_of(table))
+        for told, sign in (("positive", "ltZ (pos 0)"), ("negative", "λ x. ltZ x (pos 0)")):
+            edit = Edit(REFUSALS, f"(not (lacks (l .by{field})))", f"(some ({sign}) (l .by{field}))", [])
+            yield Version(f"{name} refused where {told} alone", edit, "Refusals", table, list_of(table))
+
+
 # The bounds of a cursor.
 
 IN_RANGE = "inRange r k = ltb (period r k .begins) (rangeEnd * 86400)"
@@ -321,7 +372,6 @@ CAUSES = {"Count": "count", "Interval": "interval", "Until": "until", "NoTick": 
 BOUNDS = (
     ("a period that begins after the last second", PERIODS, IN_RANGE, IN_RANGE.replace("ltb", "leb"), [LEB], "daily-behind-the-last"),
     ("k wraps", PERIODS, "(k * r .interval)", "(k * r .interval % 18446744073709551616)", [], "k-without-wrapping"),
-    ("INTERVAL 0 runs", CURSORS, "leb 1 (g .interval)", "true", [], "running-at-interval-0"),
     ("a place too many", CURSORS, PLACES, PLACES[:-1] + " + 1)", [], "passed-beyond"),
     ("a place too many where positions choose", CURSORS, PLACES, PLACES[:-1] + " + 1)", [], "kept-passed-beyond"),
     ("a place too few", CURSORS, PLACES, PLACES.replace("(c .place)", "(c .place + 1)"), [], "all-passed"),
@@ -336,7 +386,6 @@ BOUNDS = (
     ("UNTIL counts", CURSORS, NUMBER, f"({NUMBER} && not (above (g .until) (next g c)))", [NOT, "Rattle.machine.specs.Given.{above}"], "past-until"),
     ("the last week isn't cut", PERIODS, WEEK_ZERO, "week d w zero = ofDays (weekZero d w) (w + 7)", [], "beyond-last-week-end"),
     ("the last week is cut a day early", PERIODS, WEEK_ZERO, WEEK_ZERO.replace("rangeEnd", "(rangeEnd - 1)"), [], "to-last-week-end"),
-    ("ended at INTERVAL 0 refused", CURSORS, ENDED, "formedIn (State.Ended cause) g c = leb 1 (g .interval)\n", [], "ended-at-interval-0"),
 )
 
 
@@ -359,7 +408,7 @@ def faults():
 
 def versions():
     kinds = (
-        passed_over, one_ended, nths, moves, fillings, numbers, ranges, tests_of_lists, positions_alone,
+        passed_over, one_ended, nths, moves, fillings, numbers, ranges, tests_of_lists, positions_alone, counts, misplaced,
         cursors_by_frequency, cursor_bounds, faults,
     )
     return [version for kind in kinds for version in kind()]
