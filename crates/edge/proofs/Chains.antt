@@ -38,10 +38,10 @@ use Rattle.rule.proofs.GoodRecords.{given-sized, good-records}
 use Rattle.rule.proofs.Demand.{never-by-interval, demand-three}
 use Rattle.rule.proofs.Cursors.{lawful}
 use Rattle.edge.specs.Layout.{Decoded, Decoded.nothing, Decoded.holds, recordLength, cursorLength, encodeRecord, decodeRecord, causeNumber}
-use Rattle.edge.specs.Layout.{stateNumber, encodeCursor, decodeCursor}
+use Rattle.edge.specs.Layout.{stateNumber, stateOf, encodeCursor, decodeCursor}
 use Rattle.edge.specs.Edge.{Said, said, saidOf, checkSays, freshSays, Shown, shown, stopNumber, refusedShows, answerShows, shows, unreadable, runFrom, runSays}
 use Rattle.edge.specs.Chains.{StoppedFor, RunKept, RunKeeps, EndedStays, ToldC, afterRun, runsTell, NoneRefused, ListsC, FreshOfChecked, ChainListed, ChainOverBytes}
-use Rattle.edge.proofs.ReadBack.{record-read-back, cursor-read-back}
+use Rattle.edge.proofs.ReadBack.{record-read-back, state-back, cursor-read-back}
 use Rattle.edge.proofs.Said.{refusal-range, run-of-written}
 
 cause-given : (cause : Cause) → 0 < causeNumber cause
@@ -188,21 +188,8 @@ before-runs rulebytes cursorbytes n [] = (refl, inl refl)
 before-runs rulebytes cursorbytes n (x ∷ xs) = (refl, inr refl)
 
 -- the state behind a cause's number
-count-state : (y : State) → stateNumber y ≡ 1 → y ≡ State.Ended Cause.Count
-count-state State.Running e = absurd (omega arith)
-count-state (State.Ended Cause.Count) e = refl
-count-state (State.Ended Cause.Interval) e = absurd (omega arith)
-count-state (State.Ended Cause.Until) e = absurd (omega arith)
-count-state (State.Ended Cause.NoTick) e = absurd (omega arith)
-count-state (State.Ended Cause.Range) e = absurd (omega arith)
-
-interval-state : (y : State) → stateNumber y ≡ 2 → y ≡ State.Ended Cause.Interval
-interval-state State.Running e = absurd (omega arith)
-interval-state (State.Ended Cause.Count) e = absurd (omega arith)
-interval-state (State.Ended Cause.Interval) e = refl
-interval-state (State.Ended Cause.Until) e = absurd (omega arith)
-interval-state (State.Ended Cause.NoTick) e = absurd (omega arith)
-interval-state (State.Ended Cause.Range) e = absurd (omega arith)
+state-of-cause : (y : State) (cause : Cause) → stateNumber y ≡ causeNumber cause → y ≡ State.Ended cause
+state-of-cause y cause e = sym (state-back y) ∙ ap stateOf e ∙ state-back (State.Ended cause)
 
 other-state : (y : State) → 1 < stateNumber y → (cause : Cause) × (y ≡ State.Ended cause) × (cause ≡ Cause.Count → ⊥)
 other-state State.Running h = absurd (omega arith)
@@ -277,7 +264,7 @@ module _ (w : Raw) (ok : checked w .verdict ≡ Verdict.Accepted) (calls : List 
         all = λ u v h s le. subst (λ (ys : List ℕ). u ∈ ys) (sym listed-is) (l .all u v (subst (λ (ys : List ℕ). v ∈ ys) listed-is h) s le);
         counted = subst (λ (ys : List ℕ). AtMost (countOf (r .count)) (length ys)) (sym listed-is) (l .counted);
         byCount = λ h. subst (λ (ys : List ℕ). r .count ≡ Count.Times (length ys)) (sym listed-is)
-            (l .byCount (count-state (toldBy r calls .cursor .state) (sym (state-is (omega arith)) ∙ h)));
+            (l .byCount (state-of-cause (toldBy r calls .cursor .state) Cause.Count (sym (state-is (omega arith)) ∙ h)));
         noneLeft = λ h u s.
             let o = other-state (toldBy r calls .cursor .state) (subst (λ (k : ℕ). 1 < k) (state-is (omega arith)) h) in
             subst (λ (ys : List ℕ). u ∈ ys) (sym listed-is) (l .noneLeft (o .0) (o .1) (o .2) u s);
@@ -288,7 +275,7 @@ module _ (w : Raw) (ok : checked w .verdict ≡ Verdict.Accepted) (calls : List 
     taken = none-refused r (checked-sized w ok) (freshOf r) calls each;
     lists = lists;
     never = λ h. never-by-interval r (checked-good w ok) calls
-        (interval-state (toldBy r calls .cursor .state) (sym (state-is (omega arith)) ∙ h));
+        (state-of-cause (toldBy r calls .cursor .state) Cause.Interval (sym (state-is (omega arith)) ∙ h));
   }
 
 pub fresh-of-checked : FreshOfChecked

@@ -217,7 +217,7 @@ unfolding encodeRecord
 record-read-back r sized = read-back r sized
 
 -- a cursor
-state-back : (s : State) → stateOf (stateNumber s) ≡ s
+pub state-back : (s : State) → stateOf (stateNumber s) ≡ s
 unfolding stateOf
 state-back State.Running = refl
 state-back (State.Ended Cause.Count) = refl

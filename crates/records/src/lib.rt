@@ -56,7 +56,7 @@ pub fn is_record(rule: Rule) -> bool
     let count = rule.count;
     let until = rule.until;
     let nought = has_nought(rule.interval, count);
-    let bounded = count_and_until(count, until);
+    let both = count_and_until(count, until);
     let number = frequency_number(freq);
     let until = until_out(until);
     let every = has_every(&rule.byday);
@@ -80,7 +80,7 @@ pub fn is_record(rule: Rule) -> bool
         | (nth & (!weeknos | (1 < number)))
         | (!positions & others)
         | nought
-        | bounded
+        | both
         | misplaced;
     let unfilled = (days & (number < 3))
         | (((number < 4) & hours) | (((number < 5) & minutes) | ((number < 6) & seconds)));

@@ -4,7 +4,7 @@
 use Prim.Native.Nat.{ℕ, zero, suc, _+_, _-_, _*_, _≤_, _<_}
 use mathlib.Core.Path.{_≡_, refl, sym, _∙_, ap, subst}
 use mathlib.Core.Logic.{⊎-elim}
-use mathlib.Core.Bool.{Bool, true, false, _||_}
+use mathlib.Core.Bool.{Bool, true, false, or-true}
 use mathlib.Core.List.{List, [], _∷_}
 use native.Mathlib.Omega.{arith}
 use lib.ListN.{length, getD}
@@ -54,10 +54,6 @@ rows-refused r n h = either (yielded r) refl
     either true e =
         let f : true ≡ false = sym h ∙ none-given (asRaw r) .0 (passes r e) n in
         absurd (let z : _≡_ {A = ℕ} 0 1 = cc in omega arith)
-
-or-true : (b : Bool) → (b || true) ≡ true
-or-true true = refl
-or-true false = refl
 
 pub zero-refused : ZeroRefused
 unfolding asRaw

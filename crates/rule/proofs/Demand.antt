@@ -217,7 +217,7 @@ pub demand-three : DemandThree
 demand-three w e calls = good-records-list (checked w .rule) (good-records (checked w .rule) .1 (w, record { accepted = e; record-is = refl })) calls
 
 -- INTERVAL follows from the check, and with it demand 3 as it was said before
-answered-verdict : (v : Verdict) (q : Rule) → answers v q .verdict ≡ v
+pub answered-verdict : (v : Verdict) (q : Rule) → answers v q .verdict ≡ v
 unfolding answers
 answered-verdict Verdict.Accepted q = refl
 answered-verdict (Verdict.Refused n) q = refl

@@ -16,6 +16,7 @@ use Rattle.rule.specs.Records.{asRaw, accepts, sameSets, yielded}
 use Rattle.rule.specs.Run.{periods, runOf}
 use Rattle.rule.specs.NineRows.{nineRows, newRows, verdictByNine, checkedByNine, yieldedByNine, runByNine, EarlierRowsFirst, StillAccepted, Untouched}
 use Rattle.rule.specs.NineRows.{CheckStays, RunStays, NoLongerGood}
+use Rattle.rule.proofs.Demand.{answered-verdict}
 use Rattle.rule.proofs.RefusalLaws.{later}
 
 -- a verdict, or another where it is none
@@ -70,15 +71,10 @@ earlier-rows-first w = (
   λ e. by-parts w ∙ ap (λ (v : Verdict). orElse v (firstOf (λ m. applies m w) newRows)) e,
 )
 
-answered-accepted : (v : Verdict) (r : Rule) → answers v r .verdict ≡ Verdict.Accepted → v ≡ Verdict.Accepted
-unfolding answers
-answered-accepted (Verdict.Refused n) r e = e
-answered-accepted Verdict.Accepted r e = refl
-
 pub still-accepted : StillAccepted
 unfolding checked
 still-accepted w e =
-    let a : verdict w ≡ Verdict.Accepted = answered-accepted (verdict w) (fill (given w)) e in
+    let a : verdict w ≡ Verdict.Accepted = sym (answered-verdict (verdict w) (fill (given w))) ∙ e in
     let b : verdictByNine w ≡ Verdict.Accepted = accepted-first (verdictByNine w) _ (sym (by-parts w) ∙ a) in
     sym (same-answer w (a ∙ sym b))
 
@@ -86,7 +82,7 @@ none-new : (w : Raw) → Untouched w → firstOf (λ n. applies n w) newRows ≡
 unfolding firstOf
 none-new w u =
     later p Refusal.Nought (Refusal.CountAndUntil ∷ Refusal.ListMisplaced ∷ []) (u .nought)
-    ∙ later p Refusal.CountAndUntil (Refusal.ListMisplaced ∷ []) (u .bounded)
+    ∙ later p Refusal.CountAndUntil (Refusal.ListMisplaced ∷ []) (u .both)
     ∙ later p Refusal.ListMisplaced [] (u .misplaced)
   where
     p : Refusal → Bool

@@ -31,7 +31,7 @@ neither-is false b = refl
 
 -- from what the code has of each list: n is the frequency's number, and the others say which lists are empty
 pub record-by-parts : (r : Rule) → Sized r → {n : ℕ}
-    {u zero bounded misplaced every nth months monthdays yeardays weeknos hours minutes seconds positions : Bool}
+    {u zero both misplaced every nth months monthdays yeardays weeknos hours minutes seconds positions : Bool}
     → n ≡ frequencyNumber (r .freq)
     → u ≡ untilOut (r .until)
     → every ≡ hasEvery (r .byday)
@@ -45,7 +45,7 @@ pub record-by-parts : (r : Rule) → Sized r → {n : ℕ}
     → seconds ≡ isEmpty (r .bysecond)
     → positions ≡ isEmpty (r .bysetpos)
     → zero ≡ nought (r .interval) (r .count)
-    → bounded ≡ countAndUntil (r .count) (r .until)
+    → both ≡ countAndUntil (r .count) (r .until)
     → misplaced ≡ misplaces n (not weeknos) (not yeardays) (not monthdays)
     → let days : Bool = weeknos && (yeardays && (monthdays && not (every || nth))) in
     not (ltb 6 (r .wkst)
@@ -55,7 +55,7 @@ pub record-by-parts : (r : Rule) → Sized r → {n : ℕ}
     || nth && (not weeknos || ltb 1 n)
     || not positions && (months && (days && (hours && (minutes && seconds))))
     || zero
-    || bounded
+    || both
     || misplaced
     || (days && ltb n 3 || (ltb n 4 && hours || (ltb n 5 && minutes || ltb n 6 && seconds))))
     ≡ yielded r

@@ -59,7 +59,7 @@ StillAccepted = (w : Raw) → checked w .verdict ≡ Verdict.Accepted → checke
 -- none of the new rows applies
 pub record Untouched (w : Raw) : Type 0 where
   pub nought : applies Refusal.Nought w ≡ false
-  pub bounded : applies Refusal.CountAndUntil w ≡ false
+  pub both : applies Refusal.CountAndUntil w ≡ false
   pub misplaced : applies Refusal.ListMisplaced w ≡ false
 
 abbrev pub CheckStays : Type 0

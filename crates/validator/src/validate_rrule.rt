@@ -290,7 +290,7 @@ fn verdict_of(
     let mixed = has_every(bydayn) & nth;
     let misplaced = nth & ((byweekno.len() != 0) | (1 < freq));
     let nought = has_nought(interval, count);
-    let bounded = count_and_until(count, until);
+    let both = count_and_until(count, until);
     let lists = is_misplaced(
         freq,
         byweekno.len() != 0,
@@ -309,7 +309,7 @@ fn verdict_of(
     verdict = or_refused(verdict, Refusal::NthMisplaced, misplaced);
     verdict = or_refused(verdict, Refusal::PositionsAlone, alone);
     verdict = or_refused(verdict, Refusal::Nought, nought);
-    verdict = or_refused(verdict, Refusal::CountAndUntil, bounded);
+    verdict = or_refused(verdict, Refusal::CountAndUntil, both);
     verdict = or_refused(verdict, Refusal::ListMisplaced, lists);
     verdict
 }

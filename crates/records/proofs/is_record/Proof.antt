@@ -65,8 +65,8 @@ returns c =
     let every = nth .before .before .before .before in
     let until = every .before .before .before .before in
     let frequency = until .before in
-    let bounded = frequency .before in
-    let nought = bounded .before in
+    let both = frequency .before in
+    let nought = both .before in
     let start = nought .before in
     let sized : Sized (start .args .t1) = record {
       bymonth = bymonth .before .is-empty-arg2 .given .0;
@@ -82,7 +82,7 @@ returns c =
     record-by-parts (start .args .t1) sized (frequency .frequency-number .ensures) (until .until-out .ensures) (every .has-every .ensures)
     (nth .has-nth .ensures) (bymonth .is-empty .ensures) (bymonthday .is-empty2 .ensures) (byyearday .is-empty3 .ensures)
     (byweekno .is-empty4 .ensures) (byhour .is-empty5 .ensures) (byminute .is-empty6 .ensures) (bysecond .is-empty7 .ensures) (bysetpos .is-empty8 .ensures)
-    (nought .has-nought .ensures) (bounded .count-and-until .ensures) (c .is-misplaced .ensures)
+    (nought .has-nought .ensures) (both .count-and-until .ensures) (c .is-misplaced .ensures)
 
 pub is-record-spec : {M : Type 1} → statement M
 is-record-spec =

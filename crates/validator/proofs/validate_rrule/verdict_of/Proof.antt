@@ -38,8 +38,8 @@ until-out-requires c κs = search needs
 returns : tie.Need-returns
 returns c =
     let lists = c in
-    let bounded = lists .before in
-    let nought = bounded .before in
+    let both = lists .before in
+    let nought = both .before in
     let positions = nought .before in
     let nth = positions .before in
     let mixed = nth .before in
@@ -73,7 +73,7 @@ returns c =
     let r8 = row r7 (nth .or-refused8 .ensures) (misplaced-by (a .freq) l (has-nth .has-nth .ensures)) in
     let r9 = row r8 (positions .or-refused9 .ensures) (positions-alone .positions-alone .ensures) in
     let r10 = row r9 (nought .or-refused10 .ensures) (has-nought .has-nought .ensures) in
-    let r11 = row r10 (bounded .or-refused11 .ensures) (count-and-until .count-and-until .ensures) in
+    let r11 = row r10 (both .or-refused11 .ensures) (count-and-until .count-and-until .ensures) in
     let r12 = row r11 (lists .or-refused12 .ensures) (list-misplaced-by (a .freq) l (is-misplaced .is-misplaced .ensures)) in
     all-rows r12
 
