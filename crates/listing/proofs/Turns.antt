@@ -25,7 +25,7 @@ use Rattle.machine.specs.Run.{Now}
 use Rattle.machine.specs.Compute as compute
 use Rattle.rule.specs.declared.rrule.Until.{Until}
 use Rattle.rule.specs.declared.rrule.Rule.{Rule}
-use Rattle.rule.specs.Instants.{second, dayOf, instant}
+use Rattle.rule.specs.Instants.{instant}
 use Rattle.rule.specs.Periods.{inRange}
 use Rattle.rule.specs.Candidates.{kept}
 use Rattle.rule.specs.declared.rrule.Frequency.{Frequency}
@@ -62,7 +62,7 @@ use Rattle.walks.proofs.ByBounds.{walk-by-bounds}
 use Rattle.plans.specs.declared.plan.Plan.{Plan}
 use Rattle.plans.specs.declared.plan.Shape.{Shape}
 use Rattle.opening.specs.declared.period.Period.{Period}
-use Rattle.plans.specs.Plans.{untilSecond, boundsOf, shapeFrom, shapeOf, planFrom, planOf}
+use Rattle.plans.specs.Plans.{untilSecond, boundsOf, shapeOf, planFrom, planOf}
 use Rattle.units.specs.Years.{isInYear, dayIn, yearAt}
 use Rattle.opening.specs.Opening.{secondKept, daysBy, periodBy, chosenBy}
 use Rattle.opened.specs.Opened.{spanOf, daySetOf, isPositioned, periodIn, daysOver, placesOver, Sound, Opened}
@@ -231,11 +231,11 @@ module _ (r : Rule) (plan : Plan) (p : plan ≡ planOf r) where
   shape-is = ap (λ (x : Plan). x .shape) p
 
   freq-is : plan .shape .freq ≡ r .freq
-  unfolding shapeOf shapeFrom
+  unfolding shapeOf
   freq-is = ap (λ (x : Shape). x .freq) shape-is
 
   positioned-is : plan .shape .positioned ≡ isPositioned r
-  unfolding shapeOf shapeFrom
+  unfolding shapeOf
   positioned-is = ap (λ (x : Shape). x .positioned) shape-is
 
   interval-is : plan .interval ≡ r .interval
@@ -256,11 +256,9 @@ module _ (r : Rule) (plan : Plan) (p : plan ≡ planOf r) where
 
   -- the days of a counter's period
   pub span-is : (k : ℕ) (counter : Counter) (span : Days) → counter ≡ counterAt r k
-      → span ≡ daysIn (plan .shape .freq) (plan .shape .startday) (counter .number) → span ≡ spanOf r k
-  unfolding shapeOf shapeFrom
+      → span ≡ daysIn (plan .shape .freq) (counter .number) → span ≡ spanOf r k
   span-is k counter span c s =
-      s ∙ ap (λ (x : Shape). daysIn (x .freq) (x .startday) (counter .number)) shape-is
-      ∙ ap (λ (x : Counter). daysIn (r .freq) (dayOf (second (r .start))) (x .number)) c
+      s ∙ ap (λ (f : Frequency). daysIn f (counter .number)) freq-is ∙ ap (λ (x : Counter). daysIn (r .freq) (x .number)) c
 
   -- the year that is opened for them
   module _ (h : yielded r ≡ true) (k : ℕ) (inside : inRange r k ≡ true) (span : Days) (s : span ≡ spanOf r k) (info : IterInfo)
@@ -272,7 +270,7 @@ module _ (r : Rule) (plan : Plan) (p : plan ≡ planOf r) where
         ap (λ (x : Days). dayIn (x .from)) s ∙ rw (lt-leb 4194304 (spanOf r k .from) low)
 
     pub info-made : info ≡ ruleInfo r (yearOf (spanOf r k .from))
-    unfolding ruleInfo yearAt shapeOf shapeFrom
+    unfolding ruleInfo yearAt shapeOf
     info-made =
         made
         ∙ ap (λ (x : Shape). infoOf (x .asked) (x .inyear) (x .wkst) (r .byweekno) (r .byday) n) shape-is
@@ -303,7 +301,7 @@ pub record Turn : Type 0 where
   pub info : IterInfo
   pub a : At r m c b₀ buffer counter held tried days places info
   pub span : Days
-  pub s : span ≡ daysIn (plan .shape .freq) (plan .shape .startday) (counter .number)
+  pub s : span ≡ daysIn (plan .shape .freq) (counter .number)
   pub covered : isInYear (info .year) (span .from) ≡ true
 
 -- its passing days, as places in the year
@@ -368,7 +366,7 @@ module _ (t : Turn) where
   tick-is = ap (λ (x : Counter). x .tick) (t .a .counted)
 
   set-is : daysOf t ≡ daySetOf r k y
-  unfolding shapeOf shapeFrom
+  unfolding shapeOf
   set-is =
       same-days _ _ (t .info) (t .info) r _ _ (shape-is r (t .plan) (t .p)) refl stretch
       ∙ ap (λ (n : ℕ). daySet (askedOf r) (t .info) (ruleLists r) (spanOf r k .from - n) (spanOf r k .to - n)) first-is

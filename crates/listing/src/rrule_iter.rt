@@ -94,7 +94,7 @@ fn run_on(
     let mut tried = false;
     let mut days = [0; 373];
     let mut places = [0; 732];
-    let first = days_of(freq, shape.startday, counter.number);
+    let first = days_of(freq, counter.number);
     let mut info = rebuild(
         shape.asked,
         shape.inyear,
@@ -104,7 +104,7 @@ fn run_on(
         &rule.byday,
     );
     loop {
-        let span = days_of(freq, shape.startday, counter.number);
+        let span = days_of(freq, counter.number);
         if !covers(info.year, span.from) {
             info = rebuild(
                 shape.asked,

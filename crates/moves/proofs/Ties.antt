@@ -12,7 +12,7 @@ use Rattle.calendar.specs.Calendar.{if_then_else_}
 use Rattle.machine.specs.Given.{Move, Move.To, Move.NoTick, Move.Range}
 use Rattle.rule.specs.declared.rrule.Frequency.{Frequency}
 use Rattle.rule.specs.declared.rrule.Rule.{Rule}
-use Rattle.rule.specs.Instants.{second, lastInstant, hourOf}
+use Rattle.rule.specs.Instants.{second, hourOf}
 use Rattle.rule.specs.Filling.{isBelow}
 use Rattle.rule.specs.Days.{dayPasses}
 use Rattle.rule.specs.Times.{hourPasses, minutePasses, secondPasses, timePasses, tickPasses}
@@ -139,20 +139,19 @@ module _ (r : Rule) where
   coarse-skip k b e = ap (λ (x : ℕ). skipped x step (counterAt r k .tick) b) (coarse-ticks (r .freq) e) ∙ skipped-none _ _ _
 
   -- ---- where it ends
-  module _ (start : r .start ≤ lastInstant) where
-    reached : (k : ℕ) → below (limitOf (r .freq)) (counterAt r k) ≡ reachedBy r (bounded r (To k))
-    unfolding below reachedBy bounded
-    reached k = go (inRange r k) refl
-      where
-        go : (b : Bool) → inRange r k ≡ b → below (limitOf (r .freq)) (counterAt r k) ≡ reachedBy r (bounded r (To k))
-        go true e = let t : ltb (counterAt r k .number) (limitOf (r .freq)) ≡ true = sym (in-range-is r start k) ∙ e in rw t (rw (e, bounded))
-        go false e = let t : ltb (counterAt r k .number) (limitOf (r .freq)) ≡ false = sym (in-range-is r start k) ∙ e in rw t (rw (e, bounded))
+  reached : (k : ℕ) → below (limitOf (r .freq)) (counterAt r k) ≡ reachedBy r (bounded r (To k))
+  unfolding below reachedBy bounded
+  reached k = go (inRange r k) refl
+    where
+      go : (b : Bool) → inRange r k ≡ b → below (limitOf (r .freq)) (counterAt r k) ≡ reachedBy r (bounded r (To k))
+      go true e = let t : ltb (counterAt r k .number) (limitOf (r .freq)) ≡ true = sym (in-range-is r k) ∙ e in rw t (rw (e, bounded))
+      go false e = let t : ltb (counterAt r k .number) (limitOf (r .freq)) ≡ false = sym (in-range-is r k) ∙ e in rw t (rw (e, bounded))
 
-    arrives : (k : ℕ) (v : Move) → arrive (r .freq) step (counterAt r k) v ≡ reachedBy r (bounded r (later k v))
-    unfolding arrive reachedBy bounded
-    arrives k (To n) = ap (below (limitOf (r .freq))) (sym (counter-ahead k n)) ∙ reached (k + n)
-    arrives k NoTick = refl
-    arrives k Range = refl
+  arrives : (k : ℕ) (v : Move) → arrive (r .freq) step (counterAt r k) v ≡ reachedBy r (bounded r (later k v))
+  unfolding arrive reachedBy bounded
+  arrives k (To n) = ap (below (limitOf (r .freq))) (sym (counter-ahead k n)) ∙ reached (k + n)
+  arrives k NoTick = refl
+  arrives k Range = refl
 
   -- ---- the move
   module _ (clock : List Bool) (are : Flags r clock) (k : ℕ) where
@@ -182,7 +181,7 @@ k-near r one k n =
 
 pub counter-stands : CounterStands
 counter-stands r one start k e =
-    let n : counterAt r k .number < limitOf (r .freq) = ltb-true _ _ (sym (in-range-is r start k) ∙ e) in
+    let n : counterAt r k .number < limitOf (r .freq) = ltb-true _ _ (sym (in-range-is r k) ∙ e) in
     is-standing (r .freq) (r .interval) (counterAt r k)
     (record { some = one; near = rw (k-is r k) (k-near r one k n); inside = n; tick = tick-in r k })
 
@@ -190,7 +189,7 @@ pub increment-is-move : IncrementIsMove
 unfolding move
 increment-is-move r one start k e clock are =
     sym (moves (r .freq) (r .interval) (counterAt r k) (dayPasses r (dayIn r k)) clock (counter-stands r one start k e))
-    ∙ arrives r start k (landing (r .freq) (step r) (counterAt r k) clock (from r clock are k))
+    ∙ arrives r k (landing (r .freq) (step r) (counterAt r k) clock (from r clock are k))
     ∙ ap (λ (v : Move). reachedBy r (bounded r v)) (target-is r clock are k (fine r) refl)
 
 -- ---- what a counter that was reached tells of the move

@@ -26,7 +26,7 @@ use Rattle.opening.specs.declared.period.Period.{Period}
 use Rattle.opening.specs.Opening.{secondKept}
 use Rattle.opened.specs.Opened.{spanOf, isPositioned}
 use Rattle.fitting.specs.Fitting.{endIn, candidateOf, nextOf, fitsPeriod, isFit}
-use Rattle.plans.specs.Plans.{shapeFrom, boundsOf, shapeOf}
+use Rattle.plans.specs.Plans.{boundsOf, shapeOf}
 use Rattle.units.proofs.Units.{few-ticks}
 use Rattle.opened.proofs.Spans.{tick-below, ends-are, span-to-high}
 use Rattle.opened.proofs.Tables.{tabled-at}
@@ -74,7 +74,7 @@ module _ (r : Rule) (fit : Good r) (k : ℕ) (inside : inRange r k ≡ true) (p 
   fitting : (c : Cursor) → isFit (shapeOf r) (spanOf r k) (counterAt r k .tick) (boundsOf r) p c days (setsIn r .lists) places
       ≡ (leb (c .place) (length (kept r k))
       && (below (countOf (r .count)) (c .number) && leb (c .number) (getD (kept r k) (c .place) (period r k .ends) - second (r .start))))
-  unfolding isFit fitsPeriod shapeOf shapeFrom boundsOf
+  unfolding isFit fitsPeriod shapeOf boundsOf
   fitting c =
       ap (λ (e : ℕ). test (p .kept) (nextOf (isPositioned r) p e (c .place) days (setsIn r .lists) places)) end-is
       ∙ ap (test (p .kept)) (next-is (c .place) (period r k .ends))

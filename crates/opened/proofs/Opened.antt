@@ -41,7 +41,7 @@ use Rattle.opening.specs.declared.period.Period.{Period}
 use Rattle.units.specs.Years.{isInYear}
 use Rattle.opening.specs.Opening.{tickBegins, tickSecond, frameOf, keptCount, chosenOver, secondKept, noPeriod, isOpen, periodBy, chosenBy}
 use Rattle.opened.specs.Opened.{spanOf, daySetOf, isPositioned, periodIn, daysOver, placesOver, Sound, Opened, OpenedIs}
-use Rattle.plans.specs.Plans.{shapeFrom, shapeOf}
+use Rattle.plans.specs.Plans.{shapeOf}
 use Rattle.opening.proofs.PeriodLaws.{few-days}
 use Rattle.opened.proofs.Spans.{Covers, covers-is, year-begins, Fits, tick-below, begins-place}
 use Rattle.opened.proofs.Spans.{span-of-period, span-from-low, span-in-year, span-of-a-day}
@@ -274,7 +274,7 @@ module _ (r : Rule) (fit : Good r) (k : ℕ) (inside : inRange r k ≡ true) (y 
 
   by-days : (M : Period → List ℕ → Type 0) → M (record { frame = f; kept = n }) chosen → (length ds ≡ 0 → M none places)
       → M (periodIn r k y) (placesOver r k y places)
-  unfolding periodBy chosenBy shapeOf shapeFrom isOpen frameOf
+  unfolding periodBy chosenBy shapeOf isOpen frameOf
   by-days M a b = go (ltb 0 (length ds)) refl
     where
       either : Bool → Type 0
@@ -287,7 +287,7 @@ module _ (r : Rule) (fit : Good r) (k : ℕ) (inside : inRange r k ≡ true) (y 
   kept-nothing : length ds ≡ 0 → length (kept r k) ≡ 0
   kept-nothing e = kept-length-is (isPositioned r) refl ∙ none-counted (isPositioned r) (r .bysetpos) (f .days) (f .times) (days-in ∙ e)
 
-  begun-year : (719162 ≤ newYear y) × (newYear y ≤ 3652059)
+  begun-year : (718797 ≤ newYear y) × (newYear y ≤ 3652059)
   begun-year = year-begins y (spanOf r k .from) (span-from-low r fit k inside) (cover .high) (cover .holds)
 
   tabled-so : kept r k

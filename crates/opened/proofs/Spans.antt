@@ -1,6 +1,6 @@
 -- The days of a period, in the tables of a year.
 -- Assumes nothing.
-use Prim.Native.Nat.{ℕ, zero, suc, _+_, _-_, _*_, _/_, _%_, min, _≤_, _<_}
+use Prim.Native.Nat.{ℕ, _+_, _-_, _*_, _/_, _%_, min, _≤_, _<_}
 use mathlib.Core.Path.{_≡_, refl, sym, ap, subst, _∙_}
 use mathlib.Core.Logic.{⊎-elim}
 use mathlib.Core.Bool.{Bool, true, false, _&&_}
@@ -17,7 +17,7 @@ use Rattle.rule.specs.declared.rrule.Rule.{Rule}
 use Rattle.rule.specs.Instants.{second, rangeEnd, dayOf}
 use Rattle.rule.specs.Days.{weekOf}
 use Rattle.rule.specs.Filling.{isBelow}
-use Rattle.rule.specs.Periods.{week, month, periodAfter, period, inRange}
+use Rattle.rule.specs.Periods.{month, periodAfter, period, inRange}
 use Rattle.rule.specs.Moves.{fine, ticks}
 use Rattle.rule.proofs.Order.{below-or, first, month-next, months-rise, monthIn}
 use Rattle.stretches.specs.declared.counter_date.Days.{Days}
@@ -46,6 +46,11 @@ epoch-year : newYear 1970 ≡ 719162
 unfolding newYear
 epoch-year = refl
 
+-- the first week may begin in the year before
+year-before : newYear 1969 ≡ 718797
+unfolding newYear
+year-before = refl
+
 epoch-month : first 23640 ≡ 719162
 unfolding firstOf daysBeforeMonth newYear
 epoch-month = refl
@@ -67,19 +72,19 @@ no-year : (r : Rule) (y : ℕ) → 9999 < y → ruleInfo r y .year ≡ noYear
 unfolding ruleInfo infoOf yearInfo
 no-year r y h = rw (lt-leb y 9999 h)
 
--- A year that covers a day from 1970 on is one of the calendar, and the day lies in it.
+-- A year that covers a day from 26 December 1969 on, when the earliest week begins, is one of the calendar, and the day lies in it.
 pub record Covers (y d : ℕ) : Type 0 where
   pub low : 3 ≤ y
   pub high : y ≤ 9999
   pub holds : InYear y d
 
-year-covers : (r : Rule) (y d : ℕ) → 719162 ≤ d → y ≤ 9999 → isInYear (ruleInfo r y .year) d ≡ true → Covers y d
+year-covers : (r : Rule) (y d : ℕ) → 719156 ≤ d → y ≤ 9999 → isInYear (ruleInfo r y .year) d ≡ true → Covers y d
 year-covers r y d l h e =
     let w = within (yearOwn y) d (ap (λ (x : Year). isInYear x d) (sym (info-year r y h)) ∙ e) in
     let n : 3 ≤ y = omega (arith, days-high (leap y), new-year-at-most y) in
     record { low = n; high = h; holds = record { low = omega arith; from = w .0; to = omega (arith, years-follow y (omega arith)) } }
 
-pub covers-is : (r : Rule) (y d : ℕ) → 719162 ≤ d → isInYear (ruleInfo r y .year) d ≡ true → Covers y d
+pub covers-is : (r : Rule) (y d : ℕ) → 719156 ≤ d → isInYear (ruleInfo r y .year) d ≡ true → Covers y d
 covers-is r y d l e = go (leb y 9999) refl
   where
     go : (b : Bool) → leb y 9999 ≡ b → Covers y d
@@ -94,14 +99,14 @@ year-is-covered r y d h i =
     let f : newYear (y + 1) ≡ newYear y + yearLength y = years-follow y (i .low) in
     rw (info-year r y h, le-leb (newYear y) d (i .from), lt-ltb d (newYear y + yearLength y) (omega arith))
 
--- the year that holds a day of the range begins in the range
-pub year-begins : (y d : ℕ) → 719162 ≤ d → y ≤ 9999 → InYear y d → (719162 ≤ newYear y) × (newYear y ≤ 3652059)
+-- the year that holds such a day begins with 1969 or later, and by the end of the range
+pub year-begins : (y d : ℕ) → 719156 ≤ d → y ≤ 9999 → InYear y d → (718797 ≤ newYear y) × (newYear y ≤ 3652059)
 year-begins y d l h i =
     ⊎-elim
-    (λ (b : y < 1970). absurd (omega (arith, epoch-year, years-rise (y + 1) 1970 (omega arith) (omega arith))))
-    (λ (b : 1970 ≤ y).
-    (omega (arith, epoch-year, years-rise 1970 y (omega arith) b), omega (arith, year-limit, years-rise y 10000 (omega arith) (omega arith))))
-    (below-or y 1970)
+    (λ (b : y < 1969). absurd (omega (arith, year-before, years-rise (y + 1) 1969 (omega arith) (omega arith))))
+    (λ (b : 1969 ≤ y).
+    (omega (arith, year-before, years-rise 1969 y (omega arith) b), omega (arith, year-limit, years-rise y 10000 (omega arith) (omega arith))))
+    (below-or y 1969)
 
 pub year-high : (d : ℕ) → d < rangeEnd → yearOf d ≤ 9999
 year-high d h =
@@ -125,16 +130,16 @@ month-not-low d h = omega (arith, year-low d h)
 
 -- ---- the number of a period: not before the start's
 
-abbrev Low : Frequency → (wkst d n : ℕ) → Type 0
-Low Frequency.Yearly wkst d n = 1970 ≤ n
-Low Frequency.Monthly wkst d n = 23640 ≤ n
-Low Frequency.Weekly wkst d n = weekOf wkst d ≤ n
-Low Frequency.Daily wkst d n = 719162 ≤ n
-Low Frequency.Hourly wkst d n = 719162 ≤ n
-Low Frequency.Minutely wkst d n = 719162 ≤ n
-Low Frequency.Secondly wkst d n = 719162 ≤ n
+abbrev Low : Frequency → ℕ → Type 0
+Low Frequency.Yearly n = 1970 ≤ n
+Low Frequency.Monthly n = 23640 ≤ n
+Low Frequency.Weekly n = 719156 ≤ n
+Low Frequency.Daily n = 719162 ≤ n
+Low Frequency.Hourly n = 719162 ≤ n
+Low Frequency.Minutely n = 719162 ≤ n
+Low Frequency.Secondly n = 719162 ≤ n
 
-low-number : (f : Frequency) (wkst s m : ℕ) → 719162 * 86400 ≤ s → Low f wkst (dayOf s) ((numberOf f wkst s + m) / ticks f)
+low-number : (f : Frequency) (wkst s m : ℕ) → 719162 * 86400 ≤ s → Low f ((numberOf f wkst s + m) / ticks f)
 unfolding numberOf
 low-number Frequency.Yearly wkst s m h = omega (arith, year-low (dayOf s) (omega arith))
 low-number Frequency.Monthly wkst s m h = omega (arith, month-not-low (dayOf s) (omega arith))
@@ -189,30 +194,29 @@ year-fits n y h i =
 short-fits : (y from to : ℕ) → InYear y from → from < to → to ≤ from + 7 → Fits y from to
 short-fits y from to i a b = record { some = a; high = omega (arith, years-follow y (i .low)) }
 
-module _ (wkst d n y : ℕ) (week-start : wkst ≤ 6) (start : d < rangeEnd) where
-  span-fits : (f : Frequency) → n < limitOf f → Low f wkst d n → InYear y (daysAt f d n .from) → Fits y (daysAt f d n .from) (daysAt f d n .to)
+module _ (n : ℕ) where
+  span-fits : (f : Frequency) (y : ℕ) → n < limitOf f → Low f n → InYear y (daysAt f n .from) → Fits y (daysAt f n .from) (daysAt f n .to)
   unfolding daysAt limitOf
-  span-fits Frequency.Yearly h l i = year-fits n y (omega arith) i
-  span-fits Frequency.Monthly h l i = month-fits n y (omega arith) i
-  span-fits Frequency.Weekly h l i = short-fits y _ _ i (omega arith) (omega arith)
-  span-fits Frequency.Daily h l i = short-fits y _ _ i (omega arith) (omega arith)
-  span-fits Frequency.Hourly h l i = short-fits y _ _ i (omega arith) (omega arith)
-  span-fits Frequency.Minutely h l i = short-fits y _ _ i (omega arith) (omega arith)
-  span-fits Frequency.Secondly h l i = short-fits y _ _ i (omega arith) (omega arith)
+  span-fits Frequency.Yearly y h l i = year-fits n y (omega arith) i
+  span-fits Frequency.Monthly y h l i = month-fits n y (omega arith) i
+  span-fits Frequency.Weekly y h l i = short-fits y _ _ i (omega arith) (omega arith)
+  span-fits Frequency.Daily y h l i = short-fits y _ _ i (omega arith) (omega arith)
+  span-fits Frequency.Hourly y h l i = short-fits y _ _ i (omega arith) (omega arith)
+  span-fits Frequency.Minutely y h l i = short-fits y _ _ i (omega arith) (omega arith)
+  span-fits Frequency.Secondly y h l i = short-fits y _ _ i (omega arith) (omega arith)
 
-  span-low : (f : Frequency) → 719162 ≤ d → Low f wkst d n → 719162 ≤ daysAt f d n .from
+  span-low : (f : Frequency) → Low f n → 719156 ≤ daysAt f n .from
   unfolding daysAt
-  span-low Frequency.Yearly s l = omega (arith, epoch-year, years-rise 1970 n (omega arith) l)
-  span-low Frequency.Monthly s l = omega (arith, epoch-month, months-rise 23640 n (omega arith) l)
-  span-low Frequency.Weekly s l = omega arith
-  span-low Frequency.Daily s l = l
-  span-low Frequency.Hourly s l = l
-  span-low Frequency.Minutely s l = l
-  span-low Frequency.Secondly s l = l
+  span-low Frequency.Yearly l = omega (arith, epoch-year, years-rise 1970 n (omega arith) l)
+  span-low Frequency.Monthly l = omega (arith, epoch-month, months-rise 23640 n (omega arith) l)
+  span-low Frequency.Weekly l = l
+  span-low Frequency.Daily l = omega arith
+  span-low Frequency.Hourly l = omega arith
+  span-low Frequency.Minutely l = omega arith
+  span-low Frequency.Secondly l = omega arith
 
--- a period in range ends with the range
-module _ (wkst d n : ℕ) where
-  to-high : (f : Frequency) → n < limitOf f → Low f wkst d n → daysAt f d n .to ≤ rangeEnd
+  -- a period in range ends with the range
+  to-high : (f : Frequency) → n < limitOf f → Low f n → daysAt f n .to ≤ rangeEnd
   unfolding daysAt limitOf
   to-high Frequency.Yearly h l = omega (arith, year-limit, years-rise (n + 1) 10000 (omega arith) (omega arith))
   to-high Frequency.Monthly h l = omega (arith, month-limit, months-rise (n + 1) 120000 (omega arith) (omega arith))
@@ -223,29 +227,25 @@ module _ (wkst d n : ℕ) where
   to-high Frequency.Secondly h l = omega arith
 
 -- below DAILY a period lies in one day
-one-day : (f : Frequency) (d n : ℕ) → isBelow Frequency.Daily f ≡ true → daysAt f d n .to - daysAt f d n .from ≡ 1
+one-day : (f : Frequency) (n : ℕ) → isBelow Frequency.Daily f ≡ true → daysAt f n .to - daysAt f n .from ≡ 1
 unfolding daysAt
-one-day Frequency.Yearly d n h = absurd (let z : _≡_ {A = ℕ} 0 1 = cc in omega arith)
-one-day Frequency.Monthly d n h = absurd (let z : _≡_ {A = ℕ} 0 1 = cc in omega arith)
-one-day Frequency.Weekly d n h = absurd (let z : _≡_ {A = ℕ} 0 1 = cc in omega arith)
-one-day Frequency.Daily d n h = absurd (let z : _≡_ {A = ℕ} 0 1 = cc in omega arith)
-one-day Frequency.Hourly d n h = omega arith
-one-day Frequency.Minutely d n h = omega arith
-one-day Frequency.Secondly d n h = omega arith
+one-day Frequency.Yearly n h = absurd (let z : _≡_ {A = ℕ} 0 1 = cc in omega arith)
+one-day Frequency.Monthly n h = absurd (let z : _≡_ {A = ℕ} 0 1 = cc in omega arith)
+one-day Frequency.Weekly n h = absurd (let z : _≡_ {A = ℕ} 0 1 = cc in omega arith)
+one-day Frequency.Daily n h = absurd (let z : _≡_ {A = ℕ} 0 1 = cc in omega arith)
+one-day Frequency.Hourly n h = omega arith
+one-day Frequency.Minutely n h = omega arith
+one-day Frequency.Secondly n h = omega arith
 
 -- ---- where a period begins in its day
 
 module _ (wkst s k i : ℕ) where
-  week-begins : (d w n : ℕ) → week d w n .begins % 86400 ≡ 0
-  week-begins d w zero = omega arith
-  week-begins d w (suc n) = omega arith
-
   coarse-place : (f : Frequency) → isBelow Frequency.Daily f ≡ false
       → periodAfter f wkst s (k * i) .begins % 86400 ≡ tickBegins f ((numberOf f wkst s + k * stepOf f i) % ticks f)
   unfolding periodAfter month
   coarse-place Frequency.Yearly h = omega arith
   coarse-place Frequency.Monthly h = omega arith
-  coarse-place Frequency.Weekly h = omega (arith, week-begins (dayOf s) (weekOf wkst (dayOf s)) (k * i))
+  coarse-place Frequency.Weekly h = omega arith
   coarse-place Frequency.Daily h = omega arith
   coarse-place Frequency.Hourly h = absurd (let z : _≡_ {A = ℕ} 0 1 = cc in omega arith)
   coarse-place Frequency.Minutely h = absurd (let z : _≡_ {A = ℕ} 0 1 = cc in omega arith)
@@ -265,10 +265,6 @@ some-ticks Frequency.Secondly = omega arith
 whole-days : (b n : ℕ) → 1 ≤ (b * 86400 + 86399) / 86400 → b * 86400 ≡ ((b * 86400 + 86399) / 86400 - 1) * 86400 + (n % 1 + 1) * 86400
 whole-days b n h = omega arith
 
-week-days : (d w n m : ℕ) → 1 ≤ (week d w n .ends + 86399) / 86400 → week d w n .ends ≡ ((week d w n .ends + 86399) / 86400 - 1) * 86400 + (m % 1 + 1) * 86400
-week-days d w zero m h = whole-days (min (w + 7) rangeEnd) m h
-week-days d w (suc n) m h = whole-days (min (w + 7 * suc n + 7) rangeEnd) m h
-
 module _ (wkst s k i : ℕ) where
   end-after : (f : Frequency) → 1 ≤ (periodAfter f wkst s (k * i) .ends + 86399) / 86400
       → periodAfter f wkst s (k * i) .ends
@@ -276,7 +272,7 @@ module _ (wkst s k i : ℕ) where
   unfolding periodAfter month numberOf stepOf
   end-after Frequency.Yearly h = whole-days (newYear (yearOf (dayOf s) + k * i + 1)) _ h
   end-after Frequency.Monthly h = whole-days (first (monthIn (dayOf s) + k * i + 1)) _ h
-  end-after Frequency.Weekly h = week-days (dayOf s) (weekOf wkst (dayOf s)) (k * i) _ h
+  end-after Frequency.Weekly h = whole-days (min (weekOf wkst (dayOf s) + 7 * (k * i) + 7) rangeEnd) _ h
   end-after Frequency.Daily h = whole-days (s / 86400 + k * i + 1) _ h
   end-after Frequency.Hourly h = omega arith
   end-after Frequency.Minutely h = omega arith
@@ -313,37 +309,32 @@ module _ (r : Rule) (fit : Good r) (k : ℕ) (inside : inRange r k ≡ true) whe
   abbrev number : ℕ
   number = counterAt r k .number
 
-  abbrev startDay : ℕ
-  startDay = dayOf (second (r .start))
-
-  number-low : Low (r .freq) (r .wkst) startDay number
+  number-low : Low (r .freq) number
   unfolding counterAt
   number-low = low-number (r .freq) (r .wkst) (second (r .start)) _ (omega arith)
 
   number-in : number < limitOf (r .freq)
-  number-in = ltb-true _ _ (sym (in-range-is r (fit .start) k) ∙ inside)
+  number-in = ltb-true _ _ (sym (in-range-is r k) ∙ inside)
 
-  span-is : spanOf r k ≡ daysAt (r .freq) startDay number
-  span-is = sym (days-below (r .freq) startDay number number-in)
+  span-is : spanOf r k ≡ daysAt (r .freq) number
+  span-is = sym (days-below (r .freq) number number-in)
 
   -- the days that are told of the period are its own
   pub span-of-period : spanOf r k ≡ record { from = dayOf (period r k .begins); to = (period r k .ends + 86399) / 86400 }
-  span-of-period = days-of-period r k (fit .start) inside
+  span-of-period = days-of-period r k inside
 
-  pub span-from-low : 719162 ≤ spanOf r k .from
-  span-from-low = rw span-is (span-low (r .wkst) startDay number 0 (fit .wkst) (let h = fit .start in omega arith) (r .freq) (omega arith) number-low)
+  pub span-from-low : 719156 ≤ spanOf r k .from
+  span-from-low = rw span-is (span-low number (r .freq) number-low)
 
   pub span-in-year : (y : ℕ) → InYear y (spanOf r k .from) → Fits y (spanOf r k .from) (spanOf r k .to)
   span-in-year y i =
-      rw span-is
-      (span-fits (r .wkst) startDay number y (fit .wkst) (let h = fit .start in omega arith) (r .freq) number-in number-low
-      (subst (λ (s : Days). InYear y (s .from)) span-is i))
+      rw span-is (span-fits number (r .freq) y number-in number-low (subst (λ (s : Days). InYear y (s .from)) span-is i))
 
   pub span-order : spanOf r k .from < spanOf r k .to
   span-order = span-in-year (yearOf (spanOf r k .from)) (year-of-is (spanOf r k .from)) .some
 
   pub span-of-a-day : fine r ≡ true → spanOf r k .to - spanOf r k .from ≡ 1
-  span-of-a-day e = rw span-is (one-day (r .freq) startDay number e)
+  span-of-a-day e = rw span-is (one-day (r .freq) number e)
 
   pub span-from-high : spanOf r k .from < rangeEnd
   span-from-high = rw span-of-period (omega (arith, begins-below r k inside))
@@ -359,4 +350,4 @@ module _ (r : Rule) (fit : Good r) (k : ℕ) (inside : inRange r k ≡ true) whe
       ends-by r k (omega (arith, span-order)) ∙ ap (λ (x : ℕ). periodEnd (r .freq) x (counterAt r k .tick)) (sym t)
 
   pub span-to-high : spanOf r k .to ≤ rangeEnd
-  span-to-high = rw span-is (to-high (r .wkst) startDay number (r .freq) number-in number-low)
+  span-to-high = rw span-is (to-high number (r .freq) number-in number-low)

@@ -11,7 +11,6 @@ use Rattle.calendar.specs.Calendar.{newYear}
 use Rattle.machine.specs.declared.Cursor.{Cursor}
 use Rattle.machine.specs.Cursors.{poised}
 use Rattle.rule.specs.declared.rrule.Rule.{Rule}
-use Rattle.rule.specs.Instants.{second, dayOf}
 use Rattle.rule.specs.Lists.{isEmpty}
 use Rattle.rule.specs.Days.{dayPasses}
 use Rattle.rule.specs.Periods.{inRange}
@@ -35,7 +34,7 @@ use Rattle.plans.specs.Plans.{boundsOf, shapeOf}
 
 -- the days of period k
 abbrev pub spanOf : Rule → ℕ → Days
-spanOf r k = daysIn (r .freq) (dayOf (second (r .start))) (counterAt r k .number)
+spanOf r k = daysIn (r .freq) (counterAt r k .number)
 
 -- those of them that pass, as places in the year y
 abbrev pub daySetOf : Rule → (k y : ℕ) → List ℕ

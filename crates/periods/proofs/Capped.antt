@@ -1,25 +1,22 @@
--- What keeps the counter's numbers small: a start out of range has no period in range, and a sum that leaves the range may be cut short.
+-- What keeps the counter's numbers small: a start out of range reaches none, and a sum that leaves the range may be cut short.
 -- Assumes nothing.
-use Prim.Native.Nat.{ℕ, zero, suc, _+_, _-_, _*_, _/_, _%_, min, _≤_, _<_}
+use Prim.Native.Nat.{ℕ, _+_, _*_, _/_, _%_, min, _≤_, _<_}
 use mathlib.Core.Path.{_≡_}
 use mathlib.Core.Logic.{⊎-elim}
-use mathlib.Core.Bool.{false}
 use native.Mathlib.Omega.{arith}
-use borrow.Author.Tests.{lt-ltb, le-ltb}
+use borrow.Author.Tests.{lt-ltb, le-ltb, lt-leb, le-leb}
 use Rattle.calendar.specs.Calendar.{yearOf, dateOf}
 use Rattle.calendar.proofs.Years.{years-rise, year-of-is}
 use Rattle.calendar.proofs.Dates.{date-is}
 use Rattle.rule.specs.declared.rrule.Frequency.{Frequency}
 use Rattle.rule.specs.declared.rrule.Rule.{Rule}
-use Rattle.rule.specs.Instants.{second, rangeEnd, dayOf}
-use Rattle.rule.specs.Periods.{weekZero, month, periodAfter, period, inRange}
+use Rattle.rule.specs.Instants.{second, lastInstant, rangeEnd, dayOf}
 use Rattle.rule.specs.Moves.{ticks}
-use Rattle.rule.proofs.Order.{below-or, months-rise, monthIn}
+use Rattle.rule.proofs.Order.{below-or}
 use Rattle.periods.specs.declared.counter_date.Counter.{Counter}
 use Rattle.periods.specs.declared.counter_date.Reached.{Reached}
-use Rattle.periods.specs.Claims.{StartOut}
 use Rattle.periods.specs.Counters.{monthsBefore, numberOf, stepOf, cut, counterAt, reachedAt, limitOf}
-use Rattle.periods.proofs.Counted.{year-limit, month-limit, in-range-is}
+use Rattle.periods.proofs.Counted.{year-limit, in-range-is}
 
 -- where a number is not cut, its counter has no tick
 pub uncut : (f : Frequency) (k n : ℕ) → ticks f ≡ 1 → record { k = k; number = n; tick = 0 } ≡ cut f k n
@@ -83,39 +80,6 @@ not-cut-short Frequency.Hourly a m h = omega arith
 not-cut-short Frequency.Minutely a m h = omega arith
 not-cut-short Frequency.Secondly a m h = omega arith
 
--- the year and the month of a day after the range
-year-above : (d : ℕ) → rangeEnd ≤ d → 10000 ≤ yearOf d
-year-above d h =
-    let p = year-of-is d in
-    ⊎-elim
-    (λ (l : yearOf d < 10000). absurd (omega (arith, year-limit, years-rise (yearOf d + 1) 10000 (omega arith) (omega arith))))
-    (λ (l : 10000 ≤ yearOf d). l)
-    (below-or (yearOf d) 10000)
-
-month-above : (d : ℕ) → rangeEnd ≤ d → 120000 ≤ monthsBefore d
-unfolding dateOf
-month-above d h = omega (arith, year-above d h)
-
--- A start after 9999: no period begins in range. Here, and here alone, week period 0 has to begin on the start's own day.
-begins-late : (f : Frequency) (wkst s n : ℕ) → rangeEnd * 86400 ≤ s → rangeEnd * 86400 ≤ periodAfter f wkst s n .begins
-unfolding periodAfter month weekZero
-begins-late Frequency.Yearly wkst s n h =
-    let l : 10000 ≤ yearOf (dayOf s) = year-above (dayOf s) (omega arith) in
-    omega (arith, year-limit, years-rise 10000 (yearOf (dayOf s) + n) (omega arith) (omega arith))
-begins-late Frequency.Monthly wkst s n h =
-    let l : 120000 ≤ monthIn (dayOf s) = month-above (dayOf s) (omega arith) in
-    omega (arith, month-limit, months-rise 120000 (monthIn (dayOf s) + n) (omega arith) (omega arith))
-begins-late Frequency.Weekly wkst s zero h = omega arith
-begins-late Frequency.Weekly wkst s (suc n) h = omega arith
-begins-late Frequency.Daily wkst s n h = omega arith
-begins-late Frequency.Hourly wkst s n h = omega arith
-begins-late Frequency.Minutely wkst s n h = omega arith
-begins-late Frequency.Secondly wkst s n h = omega arith
-
-pub start-out : StartOut
-unfolding inRange period
-start-out r k h = le-ltb _ _ (begins-late (r .freq) (r .wkst) (second (r .start)) (k * r .interval) (omega arith))
-
 -- the counter of a sum cut short
 abbrev pub capped : Rule → ℕ → Counter
 capped r k = cut (r .freq) k (numberOf (r .freq) (r .wkst) (second (r .start)) + min (k * stepOf (r .freq) (r .interval)) 315537897600)
@@ -129,14 +93,16 @@ module _ (r : Rule) (k : ℕ) where
 
   pub reaches-range : 253402300799 < r .start → Reached.Range ≡ reachedAt r k
   unfolding reachedAt
-  reaches-range h = rw (start-out r k h)
+  reaches-range h = rw (lt-leb (r .start) lastInstant h)
 
   pub reaches-counter : r .start ≤ 253402300799 → capped r k .number < limitOf (r .freq) → Reached.To (capped r k) ≡ reachedAt r k
   unfolding reachedAt counterAt
   reaches-counter h l =
       let e : min steps 315537897600 ≡ steps = not-cut-short (r .freq) startNumber steps l in
-      rw (in-range-is r h k, lt-ltb (counterAt r k .number) (limitOf (r .freq)) (rw e at l)) (rw e)
+      rw (le-leb (r .start) lastInstant h, in-range-is r k, lt-ltb (counterAt r k .number) (limitOf (r .freq)) (rw e at l)) (rw e)
 
   pub reaches-no-counter : r .start ≤ 253402300799 → limitOf (r .freq) ≤ capped r k .number → Reached.Range ≡ reachedAt r k
   unfolding reachedAt counterAt
-  reaches-no-counter h l = rw (in-range-is r h k, le-ltb (counterAt r k .number) (limitOf (r .freq)) (out-of-range (r .freq) startNumber steps l))
+  reaches-no-counter h l =
+      let o = le-ltb (counterAt r k .number) (limitOf (r .freq)) (out-of-range (r .freq) startNumber steps l) in
+      rw (le-leb (r .start) lastInstant h, in-range-is r k, o)

@@ -1,6 +1,6 @@
 -- What a counter tells of its period: whether it begins in range, and its hour, minute and second.
 -- Assumes nothing.
-use Prim.Native.Nat.{ℕ, zero, suc, _+_, _-_, _*_, _/_, _%_, min, max, _≤_, _<_}
+use Prim.Native.Nat.{ℕ, _+_, _-_, _*_, _/_, _%_, _≤_, _<_}
 use mathlib.Core.Path.{_≡_, refl, sym, _∙_, ap, subst⁻¹}
 use mathlib.Core.Logic.{⊎-elim}
 use mathlib.Core.Bool.{Bool, true, false}
@@ -16,10 +16,9 @@ use Rattle.rule.specs.declared.rrule.Rule.{Rule}
 use Rattle.rule.specs.Instants.{second, rangeEnd, dayOf}
 use Rattle.rule.specs.Days.{weekOf}
 use Rattle.rule.specs.Filling.{isBelow}
-use Rattle.rule.specs.Periods.{weekZero, week, month, periodAfter, period, inRange}
+use Rattle.rule.specs.Periods.{week, month, periodAfter, period, inRange}
 use Rattle.rule.specs.Moves.{fine, ticks}
 use Rattle.rule.proofs.Order.{below-or, first, month-next, months-rise, monthIn, month-low}
-use Rattle.rule.proofs.WeekZero.{week-zero-by}
 use Rattle.periods.specs.Claims.{InRangeIs, DayIsNumber, PlaceIsTick}
 use Rattle.periods.specs.Claims.{HourlyHour, MinutelyHour, MinutelyMinute, SecondlyHour, SecondlyMinute, SecondlySecond}
 use Rattle.periods.specs.Counters.{numberOf, stepOf, counterAt, limitOf}
@@ -59,24 +58,21 @@ month-in-range n l =
     omega (arith, month-limit, month-next n l, some-days (leap (n / 12)) (n % 12) (omega arith), months-rise (n + 1) 120000 (omega arith) (omega arith)))
     (λ (h : 120000 ≤ n / 1). omega (arith, month-limit, months-rise 120000 n (omega arith) (omega arith))))
 
--- week n after that of the day d, in days: week period 0 begins no later than on that day
-week-in-range : (wkst d n : ℕ) → d < rangeEnd → ltb (week d (weekOf wkst d) n .begins) (rangeEnd * 86400) ≡ ltb ((weekOf wkst d + 7 * n) / 1) rangeEnd
-week-in-range wkst d zero h =
-    lt-ltb (weekZero d (weekOf wkst d) * 86400) (rangeEnd * 86400) (omega (arith, week-zero-by d (weekOf wkst d)))
-    ∙ sym (lt-ltb ((weekOf wkst d + 7 * 0) / 1) rangeEnd (omega arith))
-week-in-range wkst d (suc n) h =
-    same-test ((weekOf wkst d + 7 * suc n) * 86400) (rangeEnd * 86400) ((weekOf wkst d + 7 * suc n) / 1) rangeEnd
-    (λ (l : (weekOf wkst d + 7 * suc n) * 86400 < rangeEnd * 86400). omega arith)
-    (λ (l : rangeEnd * 86400 ≤ (weekOf wkst d + 7 * suc n) * 86400). omega arith)
+-- week n after the one that begins on the day w
+week-in-range : (w n : ℕ) → ltb (week w n .begins) (rangeEnd * 86400) ≡ ltb ((w + 7 * n) / 1) rangeEnd
+week-in-range w n =
+    same-test ((w + 7 * n) * 86400) (rangeEnd * 86400) ((w + 7 * n) / 1) rangeEnd
+    (λ (l : (w + 7 * n) * 86400 < rangeEnd * 86400). omega arith)
+    (λ (l : rangeEnd * 86400 ≤ (w + 7 * n) * 86400). omega arith)
 
 -- a period of so many units after that of the second s, and its number
-module _ (wkst s : ℕ) (start : s < rangeEnd * 86400) where
+module _ (wkst s : ℕ) where
   in-range-after : (f : Frequency) (k i : ℕ)
       → ltb (periodAfter f wkst s (k * i) .begins) (rangeEnd * 86400) ≡ ltb ((numberOf f wkst s + k * stepOf f i) / ticks f) (limitOf f)
   unfolding periodAfter month numberOf stepOf limitOf
   in-range-after Frequency.Yearly k i = year-in-range (yearOf (dayOf s) + k * i) (omega (arith, year-of-is (dayOf s) .low))
   in-range-after Frequency.Monthly k i = month-in-range (monthIn (dayOf s) + k * i) (omega (arith, month-low (dayOf s)))
-  in-range-after Frequency.Weekly k i = rw (mul-left-comm k 7 i) (week-in-range wkst (dayOf s) (k * i) (omega arith))
+  in-range-after Frequency.Weekly k i = rw (mul-left-comm k 7 i) (week-in-range (weekOf wkst (dayOf s)) (k * i))
   in-range-after Frequency.Daily k i =
       same-test ((s / 86400 + k * i) * 86400) (rangeEnd * 86400) ((s / 86400 + k * i) / 1) rangeEnd
       (λ (h : (s / 86400 + k * i) * 86400 < rangeEnd * 86400). omega arith) (λ (h : rangeEnd * 86400 ≤ (s / 86400 + k * i) * 86400). omega arith)
@@ -92,7 +88,7 @@ module _ (wkst s : ℕ) (start : s < rangeEnd * 86400) where
 
 pub in-range-is : InRangeIs
 unfolding inRange period counterAt
-in-range-is r h k = in-range-after (r .wkst) (second (r .start)) (omega arith) (r .freq) k (r .interval)
+in-range-is r k = in-range-after (r .wkst) (second (r .start)) (r .freq) k (r .interval)
 
 -- Below DAILY: the period begins on the day that the counter numbers, and its tick is its place in that day.
 abbrev Fine : Frequency → Type 0

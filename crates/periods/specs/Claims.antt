@@ -1,6 +1,6 @@
 -- What is claimed of the counters' definitions; proofs/ has a proof of each claim, under the same name in small letters.
 -- Assumes nothing.
-use Prim.Native.Nat.{ℕ, _*_, _/_, _%_, _≤_, _<_}
+use Prim.Native.Nat.{ℕ, _*_, _/_, _%_, _≤_}
 use mathlib.Core.Path.{_≡_}
 use mathlib.Core.Bool.{true, false}
 use lib.Dec.{ltb}
@@ -13,24 +13,20 @@ use Rattle.periods.specs.declared.counter_date.Counter.{Counter}
 use Rattle.periods.specs.declared.counter_date.Reached.{Reached}
 use Rattle.periods.specs.Counters.{counterAt, ruleFrom, reachedAt, limitOf}
 
--- A period begins in range where its number is below the limit. Week period 0 begins on the start's own day, which has to be in range for that.
+-- A period begins in range where its number is below the limit.
 abbrev pub InRangeIs : Type 0
-InRangeIs = (r : Rule) → r .start ≤ lastInstant → (k : ℕ) → inRange r k ≡ ltb (counterAt r k .number) (limitOf (r .freq))
-
--- Where the start is not in range, no period begins in range.
-abbrev pub StartOut : Type 0
-StartOut = (r : Rule) (k : ℕ) → lastInstant < r .start → inRange r k ≡ false
+InRangeIs = (r : Rule) (k : ℕ) → inRange r k ≡ ltb (counterAt r k .number) (limitOf (r .freq))
 
 -- Where a period stands depends on four fields of the rule.
 abbrev pub ReachedByFields : Type 0
 ReachedByFields = (r : Rule) (k : ℕ) → reachedAt r k ≡ reachedAt (ruleFrom (r .freq) (r .interval) (r .wkst) (r .start)) k
 
--- A counter that is reached is the period's, which begins in range; where Range is told it doesn't. NoTick is not told here.
+-- A counter that is reached is the period's, which begins in range; where Range is told of a start in range it doesn't. NoTick is not told here.
 abbrev pub ReachedCounter : Type 0
 ReachedCounter = (r : Rule) (k : ℕ) (c : Counter) → Reached.To c ≡ reachedAt r k → (c ≡ counterAt r k) × (inRange r k ≡ true)
 
 abbrev pub ReachedRange : Type 0
-ReachedRange = (r : Rule) (k : ℕ) → Reached.Range ≡ reachedAt r k → inRange r k ≡ false
+ReachedRange = (r : Rule) (k : ℕ) → r .start ≤ lastInstant → Reached.Range ≡ reachedAt r k → inRange r k ≡ false
 
 abbrev pub NeverNoTick : Type 0
 NeverNoTick = (r : Rule) (k : ℕ) → Reached.NoTick ≡ reachedAt r k → ⊥

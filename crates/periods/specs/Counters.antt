@@ -1,11 +1,13 @@
 -- Where period k stands, in whole numbers.
 -- Assumes nothing.
 use Prim.Native.Nat.{ℕ, _+_, _-_, _*_, _/_, _%_}
+use mathlib.Core.Bool.{_&&_}
+use lib.Dec.{leb}
 use Rattle.calendar.specs.declared.utils.Date.{Date}
 use Rattle.calendar.specs.Calendar.{if_then_else_, yearOf, dateOf}
 use Rattle.rule.specs.declared.rrule.Frequency.{Frequency}
 use Rattle.rule.specs.declared.rrule.Rule.{Rule}
-use Rattle.rule.specs.Instants.{second, rangeEnd, dayOf}
+use Rattle.rule.specs.Instants.{second, lastInstant, rangeEnd, dayOf}
 use Rattle.rule.specs.Days.{weekOf}
 use Rattle.rule.specs.Filling.{blank}
 use Rattle.rule.specs.Periods.{inRange}
@@ -69,10 +71,11 @@ ruleFrom freq interval wkst start = record {
   bysetpos = blank .bysetpos;
 }
 
--- the counter of period k, where it begins in range
+-- The counter of period k, where the start is in range and the period begins in it. Both are asked: of a start in the first days of the
+-- year 10000 week period 0 may begin in 9999.
 unfoldable pub reachedAt : Rule → ℕ → Reached
 unfolding counterAt inRange
-reachedAt r k = if inRange r k then Reached.To (counterAt r k) else Reached.Range
+reachedAt r k = if leb (r .start) lastInstant && inRange r k then Reached.To (counterAt r k) else Reached.Range
 
 -- the first number whose period begins after 9999
 unfoldable pub limitOf : Frequency → ℕ

@@ -6,7 +6,7 @@ use lib.Dec.{ltb}
 use Rattle.calendar.specs.Calendar.{if_then_else_}
 use Rattle.rule.specs.declared.rrule.Until.{Until}
 use Rattle.rule.specs.declared.rrule.Rule.{Rule}
-use Rattle.rule.specs.Instants.{lastInstant, second, dayOf}
+use Rattle.rule.specs.Instants.{lastInstant, second}
 use Rattle.rule.specs.Lists.{isEmpty}
 use Rattle.years.specs.Info.{askedOf, countsInYear}
 use Rattle.clocks.specs.Clocks.{clockIn, setsIn}
@@ -14,13 +14,12 @@ use Rattle.walks.specs.declared.rrule_iter.Bounds.{Bounds}
 use Rattle.plans.specs.declared.plan.Plan.{Plan}
 use Rattle.plans.specs.declared.plan.Shape.{Shape}
 
--- what the opening of a period asks, where the start is this second
-unfoldable pub shapeFrom : Rule → ℕ → Shape
+-- what the opening of a period asks
+unfoldable pub shapeOf : Rule → Shape
 unfolding askedOf countsInYear isEmpty setsIn
-shapeFrom r start = record {
+shapeOf r = record {
   freq = r .freq;
   wkst = r .wkst;
-  startday = dayOf start;
   asked = askedOf r;
   inyear = countsInYear r;
   positioned = not (isEmpty (r .bysetpos));
@@ -29,9 +28,9 @@ shapeFrom r start = record {
 
 -- a plan from the start and UNTIL as seconds
 unfoldable pub planFrom : Rule → ℕ → Until → Plan
-unfolding shapeFrom clockIn setsIn
+unfolding shapeOf clockIn setsIn
 planFrom r start until = record {
-  shape = shapeFrom r start;
+  shape = shapeOf r;
   interval = r .interval;
   clock = clockIn r;
   lists = setsIn r .lists;
@@ -45,10 +44,6 @@ untilSecond (Until.At t) = Until.At (second t)
 
 unfoldable pub boundsOf : Rule → Bounds
 boundsOf r = record { start = second (r .start); until = untilSecond (r .until); count = r .count }
-
-unfoldable pub shapeOf : Rule → Shape
-unfolding shapeFrom
-shapeOf r = shapeFrom r (second (r .start))
 
 unfoldable pub planOf : Rule → Plan
 unfolding planFrom

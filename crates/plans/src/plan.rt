@@ -18,12 +18,11 @@ const EPOCH: u64 = 62135596800;
 
 const LAST_INSTANT: u64 = 253402300799;
 
-// What the opening of a period asks of a rule, in small: frequency and week start, the start's day, which day lists there are, whether
-// BYDAY's nth entries count in the year, whether there are positions, and how many hours, minutes and seconds pass.
+// What the opening of a period asks of a rule, in small: frequency and week start, which day lists there are, whether BYDAY's nth
+// entries count in the year, whether there are positions, and how many hours, minutes and seconds pass.
 pub struct Shape {
     pub freq: Frequency,
     pub wkst: u8,
-    pub startday: u64,
     pub asked: Asked,
     pub inyear: bool,
     pub positioned: bool,
@@ -82,7 +81,6 @@ pub fn plan_of(rule: Rule) -> Plan
     let shape = Shape {
         freq,
         wkst: rule.wkst,
-        startday: start / 86400,
         asked,
         inyear: (number == 0) & !asked.month,
         positioned,

@@ -18,11 +18,11 @@ use Rattle.rule.proofs.Members.{yes, holds, in-list, member}
 use Rattle.rule.proofs.Listed.{candidates-are}
 
 -- member number i of n, where the choice c lets it through
-record Nth (c : ℕ → Bool) (y : ℕ) (xs : List ℕ) : Type 0 where
-  i : ℕ
-  below : i < length xs
-  is-y : getD xs i 0 ≡ y
-  choice : T (c i)
+pub record Nth (c : ℕ → Bool) (y : ℕ) (xs : List ℕ) : Type 0 where
+  pub i : ℕ
+  pub below : i < length xs
+  pub is-y : getD xs i 0 ≡ y
+  pub choice : T (c i)
 
 later : (c : ℕ → Bool) (y x : ℕ) (xs : List ℕ) → Nth (λ i. c (suc i)) y xs → Nth c y (x ∷ xs)
 later c y x xs p = record { i = suc (p .i); below = let l : p .i < length xs = p .below in omega arith; is-y = p .is-y; choice = p .choice }
@@ -80,7 +80,7 @@ module _ (s : List Bool) (n : ℕ) where
       tail-on (chooses s n j) y x _ (chosen-whole (j + 1) y xs i (omega arith) e (let z : j + suc i ≡ j + 1 + i = omega arith in subst (λ (k : ℕ). T (chooses s n k)) z c))
 
 -- every member has its number, and every number its member
-every : (y : ℕ) (xs : List ℕ) → List·Memᴰ y xs → Nth (λ i. true) y xs
+pub every : (y : ℕ) (xs : List ℕ) → List·Memᴰ y xs → Nth (λ i. true) y xs
 every y [] m = absurd (List·Memᴰ·not-nil m)
 every y (x ∷ xs) m =
     ⊎-elim (λ (e : y ≡ x). record { i = 0; below = omega arith; is-y = sym e; choice = tt })

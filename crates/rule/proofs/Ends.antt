@@ -1,6 +1,6 @@
 -- After a move that ends nothing is left up to the end of 9999; and a period has one move alone.
 -- Assumes nothing.
-use Prim.Native.Nat.{ℕ, zero, suc, _+_, _-_, _*_, _≤_, _<_}
+use Prim.Native.Nat.{ℕ, _+_, _*_, _≤_, _<_}
 use mathlib.Core.Path.{_≡_, refl, ap, subst, subst⁻¹}
 use mathlib.Core.Logic.{_⊎_, ⊎-elim}
 use mathlib.Core.Bool.{Bool, true, false}
@@ -13,8 +13,7 @@ use Rattle.calendar.specs.Calendar.{yearOf, dateOf}
 use Rattle.calendar.proofs.Years.{years-rise, year-of-is}
 use Rattle.machine.specs.Given.{Move, Move.To, Move.NoTick, Move.Range}
 use Rattle.rule.specs.Instants.{second, rangeEnd, dayOf}
-use Rattle.rule.specs.Days.{weekOf}
-use Rattle.rule.specs.Periods.{week, month, periodAfter, period, inRange}
+use Rattle.rule.specs.Periods.{month, periodAfter, period, inRange}
 use Rattle.rule.specs.Candidates.{Candidate}
 use Rattle.rule.specs.Moves.{tickIn, fine, Lands, Least, Next, Moves, Moves.moves, Moves.no-tick, Moves.range, move}
 use Rattle.rule.specs.Meaning.{NoTickIs, NothingLeft, OneMove}
@@ -22,22 +21,12 @@ use Rattle.rule.proofs.Listed.{candidates-are}
 use Rattle.rule.proofs.Moved.{not-both, again, move-is}
 use Rattle.rule.proofs.Skipped.{lands}
 use Rattle.rule.proofs.Order.{months-rise, month-low, monthIn, day-times}
-use Rattle.rule.proofs.WeekZero.{week-zero-by}
-
-week-begins : (d w a b : ℕ) → d ≤ w + 7 → a ≤ b → week d w a .begins ≤ week d w b .begins
-week-begins d w zero zero l h = omega arith
-week-begins d w zero (suc b) l h = omega (arith, week-zero-by d w)
-week-begins d w (suc a) zero l h = absurd (omega arith)
-week-begins d w (suc a) (suc b) l h = omega arith
 
 begins-up : (f : Frequency) (wkst s a b : ℕ) → a ≤ b → periodAfter f wkst s a .begins ≤ periodAfter f wkst s b .begins
 unfolding periodAfter month
 begins-up Frequency.Yearly wkst s a b h = day-times _ _ (years-rise (yearOf (dayOf s) + a) (yearOf (dayOf s) + b) (omega (arith, year-of-is (dayOf s) .low)) (omega arith))
 begins-up Frequency.Monthly wkst s a b h = day-times _ _ (months-rise (monthIn (dayOf s) + a) (monthIn (dayOf s) + b) (omega (arith, month-low (dayOf s))) (omega arith))
-begins-up Frequency.Weekly wkst s a b h = week-begins (dayOf s) (weekOf wkst (dayOf s)) a b (week-near (dayOf s) wkst) h
-  where
-    week-near : (d w : ℕ) → d ≤ weekOf w d + 7
-    week-near d w = omega arith
+begins-up Frequency.Weekly wkst s a b h = omega arith
 begins-up Frequency.Daily wkst s a b h = omega arith
 begins-up Frequency.Hourly wkst s a b h = omega arith
 begins-up Frequency.Minutely wkst s a b h = omega arith

@@ -9,6 +9,7 @@ pub mod EntryLaws
 pub mod FillKeeps
 pub mod FillLaws
 pub mod FreshLaws
+pub mod FromStart
 pub mod GivenLaws
 pub mod GoodRecords
 pub mod Listed
@@ -27,5 +28,4 @@ pub mod Skipped
 pub mod SlotLaws
 pub mod SoundPeriods
 pub mod ValueLaws
-pub mod WeekZero
 pub mod Weeks

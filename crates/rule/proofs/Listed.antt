@@ -2,7 +2,7 @@
 -- Assumes nothing.
 use Prim.Native.Nat.{ℕ, zero, suc, _+_, _-_, _*_, _/_, _≤_, _<_}
 use mathlib.Core.Path.{_≡_, refl, ap, subst, subst⁻¹}
-use mathlib.Core.Logic.{_⊎_, inl, inr, ⊎-elim}
+use mathlib.Core.Logic.{_⊎_, _↔_, inl, inr, ⊎-elim}
 use mathlib.Core.Bool.{Bool, true, false, _&&_}
 use mathlib.Core.List.{List, [], _∷_, _++_, map, append-nil, List·Memᴰ, List·Memᴰ·head, List·Memᴰ·tail, List·Memᴰ·not-nil, List·Memᴰ·cases-cons, Memᴰ·cast, Memᴰ·append-left, Memᴰ·append-right, List·Memᴰ·append-cases}
 use lib.Dec.{T, ltb}
@@ -14,7 +14,7 @@ use Rattle.rule.specs.Instants.{second, dayOf, hourOf, minuteOf, secondO
 use Rattle.rule.specs.Filling.{isBelow}
 use Rattle.rule.specs.Days.{dayPasses}
 use Rattle.rule.specs.Times.{hourPasses, minutePasses, secondPasses, timePasses}
-use Rattle.rule.specs.Periods.{period, periodAfter}
+use Rattle.rule.specs.Periods.{ofDays, period, periodAfter}
 use Rattle.rule.specs.Candidates.{Candidate, gather, only, covered, times, onDays, candidatesOf, candidates}
 use Rattle.machine.specs.Rising.{_∈_}
 use Rattle.rule.specs.Meaning.{RisesFrom, CandidatesAre}
@@ -271,12 +271,15 @@ module _ (r : Rule) where
   unfolding periodAfter
   all Frequency.Yearly wkst s n = coarse _ _ _ (of-days r _)
   all Frequency.Monthly wkst s n = coarse _ _ _ (of-days r _)
-  all Frequency.Weekly wkst s zero = coarse _ _ _ (of-days r _)
-  all Frequency.Weekly wkst s (suc n) = coarse _ _ _ (of-days r _)
+  all Frequency.Weekly wkst s n = coarse _ _ _ (of-days r _)
   all Frequency.Daily wkst s n = coarse (s / 86400 + n) (s / 86400 + n + 1) _ (of-days r _)
   all Frequency.Hourly wkst s n = let t : ℕ = s / 3600 + n in fine (t * 3600) ((t + 1) * 3600) _ _ _ (omega arith) (omega arith) (omega arith) (omega arith) (of-hour r (t * 3600))
   all Frequency.Minutely wkst s n = let t : ℕ = s / 60 + n in fine (t * 60) ((t + 1) * 60) _ _ _ (omega arith) (omega arith) (omega arith) (omega arith) (of-minute r (t * 60))
   all Frequency.Secondly wkst s n = let t : ℕ = s + n in fine (t * 1) ((t + 1) * 1) _ _ _ (omega arith) (omega arith) (omega arith) (omega arith) (of-second r (t * 1))
+
+  -- the same of any days, where the periods are weeks
+  any-days : (f : Frequency) → f ≡ Frequency.Weekly → (a b : ℕ) → At (a * 86400) (b * 86400) (timesAt f (a * 86400))
+  any-days f e a b = rw e (coarse a b _ (of-days r _))
 
 and-in : (a b : Bool) → T a → T b → T (a && b)
 and-in true b x y = y
@@ -308,6 +311,20 @@ module _ (r : Rule) (s : ℕ) where
   unfolding timePasses
   time-out p = (and-left h m (and-left (h && m) c p), (and-right h m (and-left (h && m) c p), (and-right (h && m) c p, tt)))
 
+-- in words
+abbrev pub Inside : Rule → (lo hi s : ℕ) → Type 0
+Inside r lo hi s = (lo ≤ s) × (s < hi) × (dayPasses r (dayOf s) ≡ true) × (timePasses r s ≡ true)
+
+inside : (r : Rule) (lo hi : ℕ) (xs : List ℕ) → Listed lo hi (P r) xs → (s : ℕ) → (s ∈ xs) ↔ Inside r lo hi s
+inside r lo hi xs w s = (
+  λ m. let q : (lo ≤ s) × (s < hi) × P r s = w .sound s (member s _ m) in (q .0, q .1, yes _ (q .2 .0), yes _ (time-in r s (q .2 .1))),
+  λ q. in-list s _ (w .whole s (q .0) (q .1) (holds (q .2), time-out r s (holds (q .3)))),
+)
+
+pub week-days-are : (r : Rule) → r .freq ≡ Frequency.Weekly → (a b s : ℕ) → (s ∈ candidatesOf r (ofDays a b)) ↔ Inside r (a * 86400) (b * 86400) s
+unfolding candidatesOf times
+week-days-are r e a b s = inside r (a * 86400) (b * 86400) _ (any-days r (r .freq) e a b) s
+
 whole-period : (r : Rule) (k : ℕ) → Listed (period r k .begins) (period r k .ends) (P r) (candidates r k)
 unfolding candidates candidatesOf times period
 whole-period r k = all r (r .freq) (r .wkst) (second (r .start)) (k * r .interval)
@@ -315,10 +332,11 @@ whole-period r k = all r (r .freq) (r .wkst) (second (r .start)) (k * r .interva
 pub candidates-are : CandidatesAre
 candidates-are r k = (whole-period r k .rises, λ s. (into s, out-of s))
   where
+    own : (s : ℕ) → (s ∈ candidates r k) ↔ Inside r (period r k .begins) (period r k .ends) s
+    own s = inside r _ _ _ (whole-period r k) s
+
     into : (s : ℕ) → s ∈ candidates r k → Candidate r k s
-    into s m =
-        let q : (period r k .begins ≤ s) × (s < period r k .ends) × P r s = whole-period r k .sound s (member s _ m) in
-        record { begun = q .0; before-end = q .1; day = yes _ (q .2 .0); time = yes _ (time-in r s (q .2 .1)) }
+    into s m = let q = own s .0 m in record { begun = q .0; before-end = q .1; day = q .2; time = q .3 }
 
     out-of : (s : ℕ) → Candidate r k s → s ∈ candidates r k
-    out-of s c = in-list s _ (whole-period r k .whole s (c .begun) (c .before-end) (holds (c .day), time-out r s (holds (c .time))))
+    out-of s c = own s .1 (c .begun, c .before-end, c .day, c .time)

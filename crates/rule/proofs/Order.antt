@@ -18,9 +18,8 @@ use Rattle.rule.specs.declared.rrule.Frequency.{Frequency}
 use Rattle.rule.specs.declared.rrule.Rule.{Rule}
 use Rattle.rule.specs.Instants.{second, lastInstant, rangeEnd, dayOf}
 use Rattle.rule.specs.Days.{weekOf}
-use Rattle.rule.specs.Periods.{week, month, periodAfter, period, inRange}
-use Rattle.rule.specs.Meaning.{PeriodsInOrder, StartInPeriod, PeriodsMeet, Within, PeriodHolds, OnePeriod}
-use Rattle.rule.proofs.WeekZero.{week-zero-by}
+use Rattle.rule.specs.Periods.{month, periodAfter, period, inRange}
+use Rattle.rule.specs.Meaning.{PeriodsInOrder, StartInPeriod, WholeWeek, PeriodsMeet, Within, PeriodHolds, OnePeriod}
 
 pub below-or : (a b : ℕ) → (a < b) ⊎ (b ≤ a)
 below-or a b = go (decLt a b)
@@ -69,11 +68,6 @@ monthIn d = 12 * dateOf d .year + (dateOf d .month - 1)
 pub month-low : (d : ℕ) → 12 ≤ monthIn d
 month-low d = omega (arith, date-is d .year-low)
 
-week-order : (d w a b : ℕ) → a < b → week d w a .ends ≤ week d w b .begins
-week-order d w a zero h = absurd (omega arith)
-week-order d w zero (suc b) h = omega arith
-week-order d w (suc a) (suc b) h = omega arith
-
 pub day-times : (a b : ℕ) → a ≤ b → a * 86400 ≤ b * 86400
 day-times a b h = omega arith
 
@@ -83,7 +77,7 @@ order Frequency.Yearly wkst s a b h =
     day-times _ _ (years-rise (yearOf (dayOf s) + a + 1) (yearOf (dayOf s) + b) (omega arith) (omega arith))
 order Frequency.Monthly wkst s a b h =
     day-times _ _ (months-rise (monthIn (dayOf s) + a + 1) (monthIn (dayOf s) + b) (omega (arith, month-low (dayOf s))) (omega arith))
-order Frequency.Weekly wkst s a b h = week-order (dayOf s) (weekOf wkst (dayOf s)) a b h
+order Frequency.Weekly wkst s a b h = omega arith
 order Frequency.Daily wkst s a b h = omega arith
 order Frequency.Hourly wkst s a b h = omega arith
 order Frequency.Minutely wkst s a b h = omega arith
@@ -117,7 +111,7 @@ holds-start Frequency.Monthly wkst s h k =
     let p = in-month (dayOf s) in
     let e : monthIn (dayOf s) + 0 ≡ monthIn (dayOf s) = omega arith in
     rw e (omega arith, omega arith)
-holds-start Frequency.Weekly wkst s h k = (omega (arith, week-zero-by (dayOf s) (weekOf wkst (dayOf s))), omega arith)
+holds-start Frequency.Weekly wkst s h k = (omega arith, omega arith)
 holds-start Frequency.Daily wkst s h k = (omega arith, omega arith)
 holds-start Frequency.Hourly wkst s h k = (omega arith, omega arith)
 holds-start Frequency.Minutely wkst s h k = (omega arith, omega arith)
@@ -127,12 +121,16 @@ pub start-in-period : StartInPeriod
 unfolding period
 start-in-period r h k = let e : 0 * r .interval ≡ 0 = omega arith in rw e (holds-start (r .freq) (r .wkst) (second (r .start)) h (omega arith))
 
+-- a start lies after the first week of the calendar, so that no week is cut short at its front
+pub whole-week : WholeWeek
+unfolding period periodAfter
+whole-week r e h k = rw e (omega arith, omega arith, λ l. omega arith)
+
 meet : (f : Frequency) (wkst s n : ℕ) → periodAfter f wkst s (suc n) .begins < rangeEnd * 86400 → periodAfter f wkst s n .ends ≡ periodAfter f wkst s (suc n) .begins
 unfolding periodAfter month
 meet Frequency.Yearly wkst s n h = let e : yearOf (dayOf s) + n + 1 ≡ yearOf (dayOf s) + suc n = omega arith in rw e
 meet Frequency.Monthly wkst s n h = let e : monthIn (dayOf s) + n + 1 ≡ monthIn (dayOf s) + suc n = omega arith in rw e
-meet Frequency.Weekly wkst s zero h = omega arith
-meet Frequency.Weekly wkst s (suc n) h = omega arith
+meet Frequency.Weekly wkst s n h = omega arith
 meet Frequency.Daily wkst s n h = omega arith
 meet Frequency.Hourly wkst s n h = omega arith
 meet Frequency.Minutely wkst s n h = omega arith
@@ -179,10 +177,7 @@ holds-in Frequency.Monthly wkst s t w h k =
     let e : monthIn (dayOf s) + (monthIn (dayOf t) - monthIn (dayOf s)) ≡ monthIn (dayOf t) = omega (arith, month-after s t h) in
     (monthIn (dayOf t) - monthIn (dayOf s), rw e (omega arith, omega arith))
 holds-in Frequency.Weekly wkst s t w h k =
-    ⊎-elim
-    (λ (l : dayOf t < weekOf wkst (dayOf s) + 7). (0, (omega (arith, week-zero-by (dayOf s) (weekOf wkst (dayOf s))), omega arith)))
-    (λ (l : weekOf wkst (dayOf s) + 7 ≤ dayOf t). let n : ℕ = (dayOf t - weekOf wkst (dayOf s) - 7) / 7 in (suc n, (omega arith, omega arith)))
-    (below-or (dayOf t) (weekOf wkst (dayOf s) + 7))
+    let n : ℕ = (dayOf t - weekOf wkst (dayOf s)) / 7 in (n, (omega arith, omega arith))
 holds-in Frequency.Daily wkst s t w h k = (t / 86400 - s / 86400, (omega arith, omega arith))
 holds-in Frequency.Hourly wkst s t w h k = (t / 3600 - s / 3600, (omega arith, omega arith))
 holds-in Frequency.Minutely wkst s t w h k = (t / 60 - s / 60, (omega arith, omega arith))

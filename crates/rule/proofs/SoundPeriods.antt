@@ -17,8 +17,7 @@ use Rattle.machine.specs.Sound.{Sound}
 use Rattle.rule.specs.declared.rrule.Frequency.{Frequency}
 use Rattle.rule.specs.declared.rrule.Rule.{Rule}
 use Rattle.rule.specs.Instants.{second, lastInstant, rangeEnd, dayOf}
-use Rattle.rule.specs.Days.{weekOf}
-use Rattle.rule.specs.Periods.{week, month, periodAfter, period, inRange}
+use Rattle.rule.specs.Periods.{month, periodAfter, period, inRange}
 use Rattle.rule.specs.Candidates.{Candidate, candidates, Kept, kept, keeps, chosen}
 use Rattle.rule.specs.Moves.{fine, Lands, Least, Next, Moves, Moves.moves, Moves.no-tick, Moves.range, move}
 use Rattle.rule.specs.Run.{periods}
@@ -30,7 +29,6 @@ use Rattle.rule.proofs.Order.{below-or, first, month-next, months-rise,
 use Rattle.rule.proofs.Moved.{move-is}
 use Rattle.rule.proofs.Skipped.{no-members, nothing-skipped}
 use Rattle.rule.proofs.Ends.{nothing-left}
-use Rattle.rule.proofs.WeekZero.{week-zero-by}
 
 -- the range ends with the year 9999
 ten-thousand : newYear 10000 ≡ rangeEnd
@@ -60,8 +58,7 @@ ends-in-range : (f : Frequency) (wkst s n : ℕ) → periodAfter f wkst s n .beg
 unfolding periodAfter month
 ends-in-range Frequency.Yearly wkst s n h = day-times _ _ (year-in (yearOf (dayOf s) + n) (omega (arith, year-of-is (dayOf s) .low)) (omega arith))
 ends-in-range Frequency.Monthly wkst s n h = day-times _ _ (month-in (monthIn (dayOf s) + n) (omega (arith, month-low (dayOf s))) (omega arith))
-ends-in-range Frequency.Weekly wkst s zero h = omega arith
-ends-in-range Frequency.Weekly wkst s (suc n) h = omega arith
+ends-in-range Frequency.Weekly wkst s n h = omega arith
 ends-in-range Frequency.Daily wkst s n h = omega arith
 ends-in-range Frequency.Hourly wkst s n h = omega arith
 ends-in-range Frequency.Minutely wkst s n h = omega arith
@@ -71,8 +68,7 @@ begins-first : (f : Frequency) (wkst s n : ℕ) → wkst ≤ 6 → periodAfter f
 unfolding periodAfter month
 begins-first Frequency.Yearly wkst s n w h = day-times _ _ (omega (arith, years-grow (yearOf (dayOf s) + n) (omega (arith, year-of-is (dayOf s) .low))))
 begins-first Frequency.Monthly wkst s n w h = day-times _ _ (omega (arith, month-next (monthIn (dayOf s) + n) (omega (arith, month-low (dayOf s)))))
-begins-first Frequency.Weekly wkst s zero w h = omega (arith, week-zero-by (dayOf s) (weekOf wkst (dayOf s)))
-begins-first Frequency.Weekly wkst s (suc n) w h = omega arith
+begins-first Frequency.Weekly wkst s n w h = omega arith
 begins-first Frequency.Daily wkst s n w h = omega arith
 begins-first Frequency.Hourly wkst s n w h = omega arith
 begins-first Frequency.Minutely wkst s n w h = omega arith
@@ -89,7 +85,7 @@ within-bounds a low high (x ∷ xs) h p m =
     above x (y ∷ ys) q s i = ⊎-elim (λ (e : s ≡ y). omega arith) (λ (j : s ∈ ys). let g : suc y ≤ s = above y ys (q .1) s j in omega arith) i
 
 -- a kept candidate is a candidate
-there : (xs : List ℕ) (j s : ℕ) → j < length xs → getD xs j 0 ≡ s → s ∈ xs
+pub there : (xs : List ℕ) (j s : ℕ) → j < length xs → getD xs j 0 ≡ s → s ∈ xs
 there [] j s h e = absurd (omega arith)
 there (x ∷ xs) zero s h e = inl (sym e)
 there (x ∷ xs) (suc j) s h e = inr (there xs j s (omega arith) e)

@@ -17,3 +17,4 @@ pub mod Meaning
 pub mod Demand
 pub mod Claims
 pub mod NineRows
+pub mod FromStart

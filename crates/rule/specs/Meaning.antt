@@ -69,6 +69,13 @@ PeriodsInOrder = (r : Rule) → 1 ≤ r .interval → (j k : ℕ) → j < k → 
 abbrev pub StartInPeriod : Type 0
 StartInPeriod = (r : Rule) → r .wkst ≤ 6 → r .start ≤ lastInstant → (period r 0 .begins ≤ second (r .start)) × (second (r .start) < period r 0 .ends)
 
+-- A week is whole: it begins at midnight of the week start's weekday, and has seven days where the end of 9999 doesn't cut it.
+abbrev pub WholeWeek : Type 0
+WholeWeek = (r : Rule) → r .freq ≡ Frequency.Weekly → r .wkst ≤ 6 → (k : ℕ)
+    → (period r k .begins % 86400 ≡ 0)
+    × (weekday (dayOf (period r k .begins)) ≡ r .wkst)
+    × (period r k .begins + 7 * 86400 ≤ rangeEnd * 86400 → period r k .ends ≡ period r k .begins + 7 * 86400)
+
 -- There are no gaps: with INTERVAL 1 period k ends where k + 1 begins, as far as the range goes.
 abbrev pub PeriodsMeet : Type 0
 PeriodsMeet = (r : Rule) → r .interval ≡ 1 → (k : ℕ) → inRange r (k + 1) ≡ true → period r k .ends ≡ period r (k + 1) .begins

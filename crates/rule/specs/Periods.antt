@@ -1,6 +1,6 @@
 -- Periods: where period k begins, and the first second after it.
 -- Assumes nothing.
-use Prim.Native.Nat.{ℕ, zero, suc, _+_, _-_, _*_, _/_, _%_, min}
+use Prim.Native.Nat.{ℕ, _+_, _-_, _*_, _/_, _%_, min}
 use mathlib.Core.Bool.{Bool}
 use lib.Dec.{ltb}
 use Rattle.rule.specs.declared.rrule.Frequency.{Frequency}
@@ -31,22 +31,17 @@ month n = ofDays (firstOf (n / 12) (n % 12 + 1)) (firstOf ((n + 1) / 12) ((n + 1
 abbrev pub unit : ℕ → ℕ → Period
 unit length n = record { begins = n * length; ends = (n + 1) * length }
 
--- The first day of week period 0: of the start's calendar week, which begins on the day w, the start's own day d. Proofs use two facts
--- of it alone (proofs/WeekZero).
-unfoldable pub weekZero : ℕ → ℕ → ℕ
-weekZero d w = d
-
--- Week period 0 begins there and ends with the start's calendar week; later ones are whole calendar weeks. A week is cut at the end of 9999.
-abbrev pub week : ℕ → ℕ → ℕ → Period
-week d w zero = ofDays (weekZero d w) (min (w + 7) rangeEnd)
-week d w (suc n) = ofDays (w + 7 * suc n) (min (w + 7 * suc n + 7) rangeEnd)
+-- The week n weeks after the one that begins on the day w. Week period 0 is whole like the others: it begins with the start's calendar
+-- week, before the start or even before 1970. A week is cut at the end of 9999.
+abbrev pub week : ℕ → ℕ → Period
+week w n = ofDays (w + 7 * n) (min (w + 7 * n + 7) rangeEnd)
 
 -- the period n units after the one that holds the second s
 unfoldable pub periodAfter : Frequency → ℕ → ℕ → ℕ → Period
 unfolding dateOf yearOf month
 periodAfter Frequency.Yearly wkst s n = year (yearOf (dayOf s) + n)
 periodAfter Frequency.Monthly wkst s n = let date : Date = dateOf (dayOf s) in month (12 * date .year + (date .month - 1) + n)
-periodAfter Frequency.Weekly wkst s n = week (dayOf s) (weekOf wkst (dayOf s)) n
+periodAfter Frequency.Weekly wkst s n = week (weekOf wkst (dayOf s)) n
 periodAfter Frequency.Daily wkst s n = unit 86400 (s / 86400 + n)
 periodAfter Frequency.Hourly wkst s n = unit 3600 (s / 3600 + n)
 periodAfter Frequency.Minutely wkst s n = unit 60 (s / 60 + n)
@@ -54,7 +49,7 @@ periodAfter Frequency.Secondly wkst s n = unit 1 (s + n)
 
 -- Period k is the start's period moved on by k times INTERVAL.
 unfoldable pub period : Rule → ℕ → Period
-unfolding periodAfter weekZero
+unfolding periodAfter
 period r k = periodAfter (r .freq) (r .wkst) (second (r .start)) (k * r .interval)
 
 -- it begins in range

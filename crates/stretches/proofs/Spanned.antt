@@ -1,6 +1,6 @@
 -- The days of a period are those of its number, where it begins in range.
 -- Assumes nothing.
-use Prim.Native.Nat.{ℕ, zero, suc, _+_, _*_, _/_, min, max, _≤_, _<_}
+use Prim.Native.Nat.{ℕ, _+_, _*_, _/_, min, _≤_, _<_}
 use mathlib.Core.Path.{_≡_, sym, _∙_}
 use mathlib.Core.Bool.{true}
 use native.Mathlib.Nat.{mul-left-comm}
@@ -12,23 +12,22 @@ use Rattle.rule.specs.declared.rrule.Frequency.{Frequency}
 use Rattle.rule.specs.declared.rrule.Rule.{Rule}
 use Rattle.rule.specs.Instants.{second, rangeEnd, dayOf}
 use Rattle.rule.specs.Days.{weekOf}
-use Rattle.rule.specs.Periods.{weekZero, week, month, periodAfter, period, inRange}
+use Rattle.rule.specs.Periods.{week, month, periodAfter, period, inRange}
 use Rattle.rule.specs.Moves.{ticks}
 use Rattle.rule.proofs.Order.{first, monthIn}
-use Rattle.rule.proofs.WeekZero.{week-zero-by, week-zero-from}
 use Rattle.periods.specs.Counters.{numberOf, stepOf, counterAt, limitOf}
 use Rattle.periods.proofs.Counted.{in-range-is}
 use Rattle.stretches.specs.Claims.{FirstDayIs, LastDayIs, DaysOfPeriod}
 use Rattle.stretches.specs.Stretches.{daysAt, daysIn}
 
 -- the period with a number has days below the limit, and none from it on
-pub days-below : (f : Frequency) (d n : ℕ) → n < limitOf f → daysAt f d n ≡ daysIn f d n
+pub days-below : (f : Frequency) (n : ℕ) → n < limitOf f → daysAt f n ≡ daysIn f n
 unfolding daysIn
-days-below f d n h = rw (lt-ltb n (limitOf f) h)
+days-below f n h = rw (lt-ltb n (limitOf f) h)
 
-pub days-past : (f : Frequency) (d n : ℕ) → limitOf f ≤ n → record { from = 0; to = 0 } ≡ daysIn f d n
+pub days-past : (f : Frequency) (n : ℕ) → limitOf f ≤ n → record { from = 0; to = 0 } ≡ daysIn f n
 unfolding daysIn
-days-past f d n h = rw (le-ltb n (limitOf f) h)
+days-past f n h = rw (le-ltb n (limitOf f) h)
 
 -- The days of a period: of each frequency where it begins, and the day after the last that it reaches into.
 year-first : (y : ℕ) → dayOf (newYear y * 86400) ≡ newYear (y / 1)
@@ -43,35 +42,30 @@ month-first n = let e : n / 1 ≡ n = omega arith in rw e (omega arith)
 month-last : (n : ℕ) → (first (n + 1) * 86400 + 86399) / 86400 ≡ first (n / 1 + 1)
 month-last n = let e : n / 1 ≡ n = omega arith in rw e (omega arith)
 
-week-first : (wkst d n v : ℕ) → v ≡ weekOf wkst d + 7 * n → dayOf (week d (weekOf wkst d) n .begins) ≡ max v (weekZero d v)
-week-first wkst d zero v e =
-    let f : v ≡ weekOf wkst d = omega arith in
-    rw f (omega (arith, week-zero-from d (weekOf wkst d) (omega arith)))
-week-first wkst d (suc n) v e = omega (arith, week-zero-by d v)
+week-first : (w n : ℕ) → dayOf (week w n .begins) ≡ (w + 7 * n) / 1
+week-first w n = omega arith
 
-week-last : (wkst d n : ℕ) → (week d (weekOf wkst d) n .ends + 86399) / 86400 ≡ min ((weekOf wkst d + 7 * n) / 1 + 7) rangeEnd
-week-last wkst d zero = omega arith
-week-last wkst d (suc n) = omega arith
+week-last : (w n : ℕ) → (week w n .ends + 86399) / 86400 ≡ min ((w + 7 * n) / 1 + 7) rangeEnd
+week-last w n = omega arith
 
 module _ (wkst s k i : ℕ) where
   first-day-after : (f : Frequency)
-      → dayOf (periodAfter f wkst s (k * i) .begins) ≡ daysAt f (dayOf s) ((numberOf f wkst s + k * stepOf f i) / ticks f) .from
+      → dayOf (periodAfter f wkst s (k * i) .begins) ≡ daysAt f ((numberOf f wkst s + k * stepOf f i) / ticks f) .from
   unfolding periodAfter month numberOf stepOf daysAt
   first-day-after Frequency.Yearly = year-first (yearOf (dayOf s) + k * i)
   first-day-after Frequency.Monthly = month-first (monthIn (dayOf s) + k * i)
-  first-day-after Frequency.Weekly =
-      rw (mul-left-comm k 7 i) (week-first wkst (dayOf s) (k * i) ((weekOf wkst (dayOf s) + 7 * (k * i)) / 1) (omega arith))
+  first-day-after Frequency.Weekly = rw (mul-left-comm k 7 i) (week-first (weekOf wkst (dayOf s)) (k * i))
   first-day-after Frequency.Daily = omega arith
   first-day-after Frequency.Hourly = omega arith
   first-day-after Frequency.Minutely = omega arith
   first-day-after Frequency.Secondly = omega arith
 
   last-day-after : (f : Frequency)
-      → (periodAfter f wkst s (k * i) .ends + 86399) / 86400 ≡ daysAt f (dayOf s) ((numberOf f wkst s + k * stepOf f i) / ticks f) .to
+      → (periodAfter f wkst s (k * i) .ends + 86399) / 86400 ≡ daysAt f ((numberOf f wkst s + k * stepOf f i) / ticks f) .to
   unfolding periodAfter month numberOf stepOf daysAt
   last-day-after Frequency.Yearly = year-last (yearOf (dayOf s) + k * i)
   last-day-after Frequency.Monthly = month-last (monthIn (dayOf s) + k * i)
-  last-day-after Frequency.Weekly = rw (mul-left-comm k 7 i) (week-last wkst (dayOf s) (k * i))
+  last-day-after Frequency.Weekly = rw (mul-left-comm k 7 i) (week-last (weekOf wkst (dayOf s)) (k * i))
   last-day-after Frequency.Daily = omega arith
   last-day-after Frequency.Hourly = omega arith
   last-day-after Frequency.Minutely = omega arith
@@ -87,6 +81,6 @@ last-day-is r k = last-day-after (r .wkst) (second (r .start)) k (r .interval) (
 
 pub days-of-period : DaysOfPeriod
 unfolding daysIn
-days-of-period r k h i =
-    let b : ltb (counterAt r k .number) (limitOf (r .freq)) ≡ true = sym (in-range-is r h k) ∙ i in
+days-of-period r k i =
+    let b : ltb (counterAt r k .number) (limitOf (r .freq)) ≡ true = sym (in-range-is r k) ∙ i in
     rw (b, first-day-is r k, last-day-is r k)

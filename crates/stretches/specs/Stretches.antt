@@ -1,11 +1,10 @@
 -- The days of a period, by its number.
 -- Assumes nothing.
-use Prim.Native.Nat.{ℕ, _+_, _/_, _%_, min, max}
+use Prim.Native.Nat.{ℕ, _+_, _/_, _%_, min}
 use lib.Dec.{ltb}
 use Rattle.calendar.specs.Calendar.{if_then_else_, newYear, firstOf}
 use Rattle.rule.specs.declared.rrule.Frequency.{Frequency}
 use Rattle.rule.specs.Instants.{rangeEnd}
-use Rattle.rule.specs.Periods.{weekZero}
 use Rattle.periods.specs.Counters.{limitOf}
 use Rattle.stretches.specs.declared.counter_date.Days.{Days}
 
@@ -13,18 +12,18 @@ use Rattle.stretches.specs.declared.counter_date.Days.{Days}
 abbrev pub firstOfMonth : ℕ → ℕ
 firstOfMonth n = firstOf (n / 12) (n % 12 + 1)
 
--- The days of the period with this number. The start's day is d: it tells where week period 0 begins. A week is cut at the end of 9999.
-unfoldable pub daysAt : Frequency → ℕ → ℕ → Days
-unfolding firstOf weekZero
-daysAt Frequency.Yearly d n = record { from = newYear n; to = newYear (n + 1) }
-daysAt Frequency.Monthly d n = record { from = firstOfMonth n; to = firstOfMonth (n + 1) }
-daysAt Frequency.Weekly d n = record { from = max n (weekZero d n); to = min (n + 7) rangeEnd }
-daysAt Frequency.Daily d n = record { from = n; to = n + 1 }
-daysAt Frequency.Hourly d n = record { from = n; to = n + 1 }
-daysAt Frequency.Minutely d n = record { from = n; to = n + 1 }
-daysAt Frequency.Secondly d n = record { from = n; to = n + 1 }
+-- The days of the period with this number. A week is cut at the end of 9999.
+unfoldable pub daysAt : Frequency → ℕ → Days
+unfolding firstOf
+daysAt Frequency.Yearly n = record { from = newYear n; to = newYear (n + 1) }
+daysAt Frequency.Monthly n = record { from = firstOfMonth n; to = firstOfMonth (n + 1) }
+daysAt Frequency.Weekly n = record { from = n; to = min (n + 7) rangeEnd }
+daysAt Frequency.Daily n = record { from = n; to = n + 1 }
+daysAt Frequency.Hourly n = record { from = n; to = n + 1 }
+daysAt Frequency.Minutely n = record { from = n; to = n + 1 }
+daysAt Frequency.Secondly n = record { from = n; to = n + 1 }
 
 -- the days of the period with this number, and none where it begins after 9999
-unfoldable pub daysIn : Frequency → ℕ → ℕ → Days
+unfoldable pub daysIn : Frequency → ℕ → Days
 unfolding daysAt limitOf
-daysIn freq d n = if ltb n (limitOf freq) then daysAt freq d n else record { from = 0; to = 0 }
+daysIn freq n = if ltb n (limitOf freq) then daysAt freq n else record { from = 0; to = 0 }

@@ -3,8 +3,7 @@ use calendar::utils::days_before_year;
 use dates::utils::day_of_date;
 use rule::rrule::Frequency;
 ghost use mathlib.Core.Path.{_≡_};
-ghost use Prim.Native.Nat.{_≤_, min, max};
-ghost use Rattle.rule.specs.Periods.{weekZero};
+ghost use Prim.Native.Nat.{_≤_, min};
 ghost use Rattle.stretches.specs.Stretches.{firstOfMonth, daysIn};
 
 // The days of a period, or the day that it is a part of: from the first up to the one after the last.
@@ -19,14 +18,14 @@ const RANGE_END: u64 = 3652059;
 // What stands for the days of a period after 9999.
 const NO_DAYS: Days = Days { from: 0, to: 0 };
 
-// The days of the period with this number, and none where it begins after 9999; startday is the start's day.
-pub fn days_of(freq: Frequency, startday: u64, number: u64) -> Days
-    ensures { λ r. ⌜ r ≡ daysIn freq startday number ⌝ }
+// The days of the period with this number, and none where it begins after 9999.
+pub fn days_of(freq: Frequency, number: u64) -> Days
+    ensures { λ r. ⌜ r ≡ daysIn freq number ⌝ }
 {
     match freq {
         Frequency::Yearly => days_of_year(number),
         Frequency::Monthly => days_of_month(number),
-        Frequency::Weekly => days_of_week(startday, number),
+        Frequency::Weekly => days_of_week(number),
         Frequency::Daily => day_alone(number),
         Frequency::Hourly => day_alone(number),
         Frequency::Minutely => day_alone(number),
@@ -36,7 +35,7 @@ pub fn days_of(freq: Frequency, startday: u64, number: u64) -> Days
 
 // The days of a year.
 fn days_of_year(number: u64) -> Days
-    ensures { λ r. ⌜ r ≡ daysIn Frequency.Yearly 0 number ⌝ }
+    ensures { λ r. ⌜ r ≡ daysIn Frequency.Yearly number ⌝ }
 {
     if 10000 <= number {
         return NO_DAYS;
@@ -50,7 +49,7 @@ fn days_of_year(number: u64) -> Days
 
 // The days of a month.
 fn days_of_month(number: u64) -> Days
-    ensures { λ r. ⌜ r ≡ daysIn Frequency.Monthly 0 number ⌝ }
+    ensures { λ r. ⌜ r ≡ daysIn Frequency.Monthly number ⌝ }
 {
     if 120000 <= number {
         return NO_DAYS;
@@ -69,29 +68,22 @@ fn first_of_month(number: u64) -> u64
     day_of_date((number / 12) as u32, (number % 12 + 1) as u8, 1)
 }
 
-// The days of the week that begins on a day: none before week period 0, nor after 9999.
-fn days_of_week(startday: u64, number: u64) -> Days
-    ensures { λ r. ⌜ r ≡ daysIn Frequency.Weekly startday number ⌝ }
+// The days of the week that begins on a day, as far as 9999 goes.
+fn days_of_week(number: u64) -> Days
+    ensures { λ r. ⌜ r ≡ daysIn Frequency.Weekly number ⌝ }
 {
     if RANGE_END <= number {
         return NO_DAYS;
     }
     Days {
-        from: later(number, week_zero(startday, number)),
+        from: number,
         to: earlier(number + 7, RANGE_END),
     }
 }
 
-// The first day of week period 0, where the start's week begins on a day: the start's own.
-fn week_zero(startday: u64, week: u64) -> u64
-    ensures { λ r. ⌜ r ≡ weekZero startday week ⌝ }
-{
-    startday
-}
-
 // A day alone.
 fn day_alone(number: u64) -> Days
-    ensures { λ r. ⌜ r ≡ daysIn Frequency.Daily 0 number ⌝ }
+    ensures { λ r. ⌜ r ≡ daysIn Frequency.Daily number ⌝ }
 {
     if RANGE_END <= number {
         return NO_DAYS;
@@ -100,13 +92,6 @@ fn day_alone(number: u64) -> Days
         from: number,
         to: number + 1,
     }
-}
-
-// The later of two days.
-fn later(a: u64, b: u64) -> u64
-    ensures { λ r. ⌜ r ≡ max a b ⌝ }
-{
-    if a < b { b } else { a }
 }
 
 // The earlier of two days.

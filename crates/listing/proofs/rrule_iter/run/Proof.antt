@@ -132,7 +132,7 @@ returns-5 c =
     let g = accepted e in
     let a = start g .args in
     let run = e .enum-told2 .given .1 in
-    let out = reached-range (a .rule) (a .cursor .k) (sym (c .before .enum-told4 .given .1) ∙ told-reached r) in
+    let out = reached-range (a .rule) (a .cursor .k) (good (a .rule) (is-good g) .start) (sym (c .before .enum-told4 .given .1) ∙ told-reached r) in
     cursor-refused (a .rule) (a .cursor) (a .buffer .now) (a .m) (c .refused3 .result) (is-good g) run
     (out-of-range (a .rule) (a .cursor) (a .buffer .now) (a .m) (c .refused3 .result) (is-good g) run out) (c .refused3 .ensures)
 

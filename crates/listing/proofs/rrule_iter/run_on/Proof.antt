@@ -28,7 +28,7 @@ Inv-loop cursor buffer₀ m rule plan shape freq counter₀ held₀ tried₀ day
 
 abbrev μ-loop : tie.MeasureT-loop
 μ-loop cursor buffer₀ m rule plan shape freq counter₀ held₀ tried₀ days₀ places₀ info₀ buffer counter held tried days places info =
-    2 * (m - held .moves) + (if isInYear (info .year) (daysIn freq (shape .startday) (counter .number) .from) then 0 else 1)
+    2 * (m - held .moves) + (if isInYear (info .year) (daysIn freq (counter .number) .from) then 0 else 1)
 
 -- ---- the places, each from the next
 
@@ -49,7 +49,7 @@ plan s = s .args .t2
 
 -- whether a year covers the period of this number
 abbrev isCovered : Start → IterInfo → ℕ → Bool
-isCovered s info number = isInYear (info .year) (daysIn (plan s .shape .freq) (plan s .shape .startday) number .from)
+isCovered s info number = isInYear (info .year) (daysIn (plan s .shape .freq) number .from)
 
 -- the first period
 abbrev begun : tie.After-rebuild Inv-loop μ-loop → tie.After-days-of Inv-loop μ-loop

@@ -1,6 +1,6 @@
 -- `plans::plan::plan_of` meets its contract.
 -- Assumes nothing.
-use Prim.Native.Nat.{ℕ, _/_}
+use Prim.Native.Nat.{ℕ}
 use mathlib.Core.Path.{_≡_, refl}
 use mathlib.Core.Bool.{Bool, true, false, not, _&&_}
 use mathlib.Core.List.{List}
@@ -15,7 +15,7 @@ use Rattle.years.specs.Info.{askedOf, countsInYear}
 use Rattle.clocks.specs.declared.iterinfo.TimeSet.{TimeSet}
 use Rattle.clocks.specs.Clocks.{clockOf, timesetOf, clockIn, setsIn}
 use Rattle.plans.specs.declared.plan.Plan.{Plan}
-use Rattle.plans.specs.Plans.{shapeFrom, planFrom, secondIn, untilIn, planIn}
+use Rattle.plans.specs.Plans.{shapeOf, planFrom, secondIn, untilIn, planIn}
 use Rattle.plans.proofs.plan.plan_of.Statement.{statement}
 use Rattle.plans.proofs.plan.plan_of.Tie as tie
 
@@ -36,7 +36,6 @@ put-together : (r : Rule) (asked : Asked) (clock : List Bool) (sets : TimeSet) (
       shape = record {
         freq = r .freq;
         wkst = r .wkst;
-        startday = start / 86400;
         asked = asked;
         inyear = eqb number 0 && not (asked .month);
         positioned = not empty;
@@ -47,7 +46,7 @@ put-together : (r : Rule) (asked : Asked) (clock : List Bool) (sets : TimeSet) (
       lists = sets .lists;
       bounds = record { start = start; until = until; count = r .count };
     } (planIn r)
-unfolding planIn planFrom shapeFrom countsInYear askedOf clockIn setsIn
+unfolding planIn planFrom shapeOf countsInYear askedOf clockIn setsIn
 put-together r asked clock sets start number until empty a b c s u e f = rw (c, b, a, s, u, e, f, not-not (isEmpty (r .bymonth)))
 
 asked-lists-requires : tie.Need-asked-lists-requires

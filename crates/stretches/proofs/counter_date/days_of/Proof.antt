@@ -1,4 +1,4 @@
--- `stretches::counter_date::days_of` meets its contract: which days a period has depends on the start only where it is a week.
+-- `stretches::counter_date::days_of` meets its contract.
 -- Assumes nothing.
 use mathlib.Core.Path.{_≡_, sym, _∙_, ap}
 use Rattle.rule.specs.declared.rrule.Frequency.{Frequency}
@@ -51,8 +51,8 @@ day-alone-requires-4 c κs = search needs
 
 -- the days by the frequency that the match found
 days-for : (a : tie.Start) (f : Frequency) → a .args .freq ≡ f
-    → daysIn f (a .args .startday) (a .args .number) ≡ daysIn (a .args .freq) (a .args .startday) (a .args .number)
-days-for a f e = ap (λ (f : Frequency). daysIn f (a .args .startday) (a .args .number)) (sym e)
+    → daysIn f (a .args .number) ≡ daysIn (a .args .freq) (a .args .number)
+days-for a f e = ap (λ (f : Frequency). daysIn f (a .args .number)) (sym e)
 
 returns : tie.Need-returns
 unfolding daysIn

@@ -11,7 +11,7 @@ use Rattle.stretches.proofs.counter_date.days_of_month.Tie as tie
 
 returns : tie.Need-returns
 unfolding limitOf
-returns c = days-past Frequency.Monthly 0 (c .before .args .number) (omega arith)
+returns c = days-past Frequency.Monthly (c .before .args .number) (omega arith)
 
 first-of-month-requires : tie.Need-first-of-month-requires
 first-of-month-requires c κs = search needs
@@ -26,7 +26,7 @@ returns-2 : tie.Need-returns-2
 unfolding daysAt limitOf
 returns-2 c =
     rw (c .before .first-of-month .ensures, c .first-of-month2 .ensures)
-    (days-below Frequency.Monthly 0 (c .before .before .before .args .number) (omega arith))
+    (days-below Frequency.Monthly (c .before .before .before .args .number) (omega arith))
 
 pub days-of-month-spec : {M : Type 1} → statement M
 days-of-month-spec =

@@ -11,13 +11,7 @@ use Rattle.stretches.proofs.counter_date.days_of_week.Tie as tie
 
 returns : tie.Need-returns
 unfolding limitOf
-returns c = days-past Frequency.Weekly (c .before .args .startday) (c .before .args .number) (omega arith)
-
-week-zero-requires : tie.Need-week-zero-requires
-week-zero-requires c κs = search needs
-
-later-requires : tie.Need-later-requires
-later-requires c κs = search needs
+returns c = days-past Frequency.Weekly (c .before .args .number) (omega arith)
 
 add-earlier : tie.Need-add-earlier
 add-earlier c = search needs
@@ -28,10 +22,8 @@ earlier-requires c κs = search needs
 returns-2 : tie.Need-returns-2
 unfolding daysAt limitOf
 returns-2 c =
-    let a = c .before .before .before .before .args in
-    rw (c .before .later .ensures, c .before .before .week-zero .ensures, c .earlier .ensures)
-    (days-below Frequency.Weekly (a .startday) (a .number) (omega arith))
+    rw (c .earlier .ensures) (days-below Frequency.Weekly (c .before .before .args .number) (omega arith))
 
 pub days-of-week-spec : {M : Type 1} → statement M
 days-of-week-spec =
-    tie.close (tie.spec returns week-zero-requires later-requires add-earlier earlier-requires returns-2)
+    tie.close (tie.spec returns add-earlier earlier-requires returns-2)

@@ -11,7 +11,7 @@ use Rattle.stretches.proofs.counter_date.days_of_year.Tie as tie
 
 returns : tie.Need-returns
 unfolding limitOf
-returns c = days-past Frequency.Yearly 0 (c .before .args .number) (omega arith)
+returns c = days-past Frequency.Yearly (c .before .args .number) (omega arith)
 
 cast-year : tie.Need-cast-year
 cast-year c = search needs
@@ -29,7 +29,7 @@ returns-2 : tie.Need-returns-2
 unfolding daysAt limitOf
 returns-2 c =
     rw (c .before .days-before-year .ensures, c .days-before-year2 .ensures)
-    (days-below Frequency.Yearly 0 (c .before .before .before .args .number) (omega arith))
+    (days-below Frequency.Yearly (c .before .before .before .args .number) (omega arith))
 
 pub days-of-year-spec : {M : Type 1} → statement M
 days-of-year-spec =
