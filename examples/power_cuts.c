@@ -3,6 +3,7 @@
  * The rule is a week of chart starts. The store has two slots that are written in turn, byte by byte; each has its turn, the
  * instant from which on nothing was acted on, the cursor, and a checksum over all three. docs/PANEL.md says why.
  * Each cut comes up to three times, once before each step of the panel: a wait, an act, an erased slot, a written byte.
+ * At the end a cursor comes up that was kept from before the version of its bytes went from 1 to 2.
  */
 #include <setjmp.h>
 #include <stdio.h>
@@ -280,6 +281,60 @@ static void try_changes_of_two(void)
     }
 }
 
+/* The rule WEEKLY;BYDAY=MO,WE,FR from Wednesday 2024-01-03T00:00:00Z. */
+static void check_weekly(uint8_t *record)
+{
+    static const int16_t every[] = {0, 0, 0};
+    static const int16_t weekdays[] = {0, 2, 4};
+    uint8_t answer = yomaveludge_check(
+        YOMAVELUDGE_WEEKLY, 1, 0, 0, 0, 0, 0, 1704240000,
+        NULL, 0, NULL, 0, NULL, 0, NULL, 0, every, 3, weekdays, 3, NULL, 0, NULL, 0, NULL, 0, NULL, 0,
+        record, YOMAVELUDGE_RECORD_LENGTH);
+    if (YOMAVELUDGE_REFUSED(answer)) {
+        fail(yomaveludge_meaning(answer), answer);
+    }
+}
+
+/* The next instant from a cursor on, from due_from on; a cursor that is refused gives way to the fresh one. */
+static uint64_t next_due(const uint8_t *record, uint8_t *cursor, uint64_t due_from, unsigned *refused)
+{
+    uint64_t instant = 0;
+    uint32_t made;
+    size_t handed = 0;
+    uint8_t cause;
+    *refused = 0;
+    while (handed == 0 || instant < due_from) {
+        uint8_t answer = yomaveludge_run(
+            record, YOMAVELUDGE_RECORD_LENGTH, cursor, YOMAVELUDGE_CURSOR_LENGTH, &instant, 1, 30, &made, &handed, &cause);
+        if (answer == YOMAVELUDGE_BAD_CURSOR) {
+            *refused = answer;
+            make_fresh(record, cursor);
+        } else if (answer != YOMAVELUDGE_MORE) {
+            fail(yomaveludge_meaning(answer), answer);
+        }
+    }
+    return instant;
+}
+
+/* What version 1 kept when 3 and 5 January were handed out: running, k 0, place 2, number 2. The week began with the start
+ * then, and both of its days were passed. Today it begins on Monday and has three: place 2 is before the Friday, which would
+ * come again. */
+static void try_kept(void)
+{
+    static const uint8_t kept[YOMAVELUDGE_CURSOR_LENGTH] = {1, 0, 0, 0, 0, 0, 0, 0, 0, 0, 2, 0, 0, 0, 2, 0, 0, 0, 0, 0, 0, 0};
+    uint8_t record[YOMAVELUDGE_RECORD_LENGTH];
+    uint8_t cursor[YOMAVELUDGE_CURSOR_LENGTH];
+    unsigned refused;
+    check_weekly(record);
+    memcpy(cursor, kept, sizeof cursor);
+    uint64_t instant = next_due(record, cursor, 1704412800 + 1, &refused);
+    printf("a cursor kept from version 1: refused %u, next start %lu", refused, (unsigned long)instant);
+    memcpy(cursor, kept, sizeof cursor);
+    cursor[0] = YOMAVELUDGE_CURSOR_VERSION;
+    instant = next_due(record, cursor, 0, &refused);
+    printf("; taken for one of today: refused %u, next start %lu\n", refused, (unsigned long)instant);
+}
+
 int main(void)
 {
     for (int updated = 0; updated < 2; updated++) {
@@ -287,5 +342,6 @@ int main(void)
         try_cuts(ACT_THEN_SAVE, updated);
     }
     try_changes_of_two();
+    try_kept();
     return 0;
 }

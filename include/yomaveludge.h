@@ -37,7 +37,19 @@ extern "C" {
 
 /* The version of this header and of the library that goes with it: one number, which goes up with each change that a caller
  * can see. */
-#define YOMAVELUDGE_VERSION 2
+#define YOMAVELUDGE_VERSION 3
+
+/* New in version 3: the first week of a WEEKLY rule is the whole calendar week of the start, from the week start's day on. Its
+ * days before the start count for BYSETPOS and for the place in a cursor; none is handed out. So a place means another one
+ * than before, and the cursor's version is 2:
+ *
+ *   Every cursor kept from version 1 or 2 of the library is refused with 21, whatever its rule is, and an ended one too. None
+ *   is converted. Take the fresh cursor, run from there, and pass over each instant that was acted on. The fresh cursor alone
+ *   begins the listing again at the rule's start.
+ *
+ * A rule lists what it listed, unless it is WEEKLY, has BYSETPOS, and starts on another weekday than the week start. Such a
+ * rule may list other instants in its first week, and with COUNT end earlier or later. A record's bytes and its version are
+ * as they were. */
 
 /* New in version 2: the check also refuses INTERVAL 0 and COUNT 0 (10), COUNT beside UNTIL (11), and lists beside a frequency
  * with which RFC 5545 forbids them (12). A rule that is still accepted has the same record, and lists what it listed. The
@@ -52,7 +64,7 @@ extern "C" {
  * there, and pass over each instant that was acted on. Those are told by time, since instants rise. So a panel stores, in
  * bytes of its own, the rule as it gave it to the check, and the instant from which on nothing was acted on. */
 #define YOMAVELUDGE_RECORD_VERSION 1
-#define YOMAVELUDGE_CURSOR_VERSION 1
+#define YOMAVELUDGE_CURSOR_VERSION 2
 
 /* The lengths of a record and of a cursor, in bytes. */
 #define YOMAVELUDGE_RECORD_LENGTH 2564

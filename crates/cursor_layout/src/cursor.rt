@@ -13,7 +13,7 @@ ghost use Rattle.cursor_layout.specs.Lengths.{ofLength, put, putTo};
 
 const CURSOR_LENGTH: usize = 22;
 
-const CURSOR_VERSION: u8 = 1;
+const CURSOR_VERSION: u8 = 2;
 
 fn cause_number(cause: Cause) -> u8
     ensures { λ r. ⌜ r ≡ causeNumber cause ⌝ }

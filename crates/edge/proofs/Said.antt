@@ -28,7 +28,7 @@ use Rattle.rule.proofs.Cursors.{fresh-runs}
 use Rattle.edge.specs.Layout.{Decoded, Decoded.nothing, Decoded.holds, recordLength, recordVersion, encodeRecord, isRecordBytes, decodeRecord}
 use Rattle.edge.specs.Layout.{cursorLength, cursorVersion, encodeCursor, isCursorBytes, decodeCursor}
 use Rattle.edge.specs.Edge.{Said, said, saidOf, checkSays, freshFrom, freshSays, Shown, shown, shows, refusedShows, unreadable, runFrom, runSays}
-use Rattle.edge.specs.Claims.{CheckOfRefused, CheckOfAccepted, IsOther, OtherRecordRefused, OtherCursorRefused, CheckNumbers}
+use Rattle.edge.specs.Claims.{CheckOfRefused, CheckOfAccepted, IsOther, OtherRecordRefused, OtherCursorRefused, KeptFromBeforeRefused, CheckNumbers}
 use Rattle.edge.specs.Claims.{CheckRefusedLeaves, FreshNumbers, FreshRefusedLeaves, FreshIsRunning, RunNumbers, RunRefusedLeaves, RunOfWritten}
 use Rattle.edge.proofs.EdgeLaws.{fresh-no-record, run-no-record, run-no-cursor}
 use Rattle.edge.proofs.ReadBack.{record-read-back, cursor-read-back}
@@ -174,3 +174,7 @@ other-record-refused rulebytes cursorbytes h =
 pub other-cursor-refused : OtherCursorRefused
 other-cursor-refused rulebytes cursorbytes buffer m r held good h =
     sym (run-no-cursor rulebytes cursorbytes buffer m r held 21 (other-cursor cursorbytes h) (ap unreadable (sym good)))
+
+pub kept-from-before-refused : KeptFromBeforeRefused
+kept-from-before-refused rulebytes cursorbytes buffer m r held good one =
+    other-cursor-refused rulebytes cursorbytes buffer m r held good (inr (λ (two : getD cursorbytes 0 0 ≡ cursorVersion). omega arith))

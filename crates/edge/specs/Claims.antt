@@ -67,6 +67,11 @@ abbrev pub OtherCursorRefused : Type 0
 OtherCursorRefused = (rulebytes cursorbytes buffer : List ℕ) (m : ℕ) (r : Rule) → decodeRecord rulebytes ≡ holds r → yielded r ≡ true
     → IsOther cursorLength cursorVersion cursorbytes → runSays rulebytes cursorbytes buffer m ≡ shown 21 cursorbytes buffer 0 0 0
 
+-- A cursor kept from before request 2026-02 has the version 1: since a place in week period 0 means another instant now, it is refused.
+abbrev pub KeptFromBeforeRefused : Type 0
+KeptFromBeforeRefused = (rulebytes cursorbytes buffer : List ℕ) (m : ℕ) (r : Rule) → decodeRecord rulebytes ≡ holds r → yielded r ≡ true
+    → getD cursorbytes 0 0 ≡ 1 → runSays rulebytes cursorbytes buffer m ≡ shown 21 cursorbytes buffer 0 0 0
+
 -- Only the numbers of the table are said, and a call that says one of a refusal leaves what was lent as it was.
 abbrev pub CheckNumbers : Type 0
 CheckNumbers = (w : Raw) (bytes : List ℕ) → (checkSays w bytes .number ≤ 12) ⊎ (checkSays w bytes .number ≡ 20)

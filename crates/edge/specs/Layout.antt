@@ -122,7 +122,7 @@ cursorLength = 22
 
 -- The version of a cursor's bytes, which goes up likewise: also where the layout stays and k, place or number come to mean something else.
 abbrev pub cursorVersion : ℕ
-cursorVersion = 1
+cursorVersion = 2
 
 abbrev pub causeNumber : Cause → ℕ
 causeNumber Cause.Count = 1
