@@ -1,8 +1,8 @@
 -- Between the periods whose week period 0 begins on the start's own day and those whose week period 0 is whole: what stays.
 -- Assumes nothing.
 use Prim.Native.Nat.{ℕ, zero, suc, _+_, _*_, min, _≤_}
-use mathlib.Core.Path.{_≡_, refl, ap}
-use mathlib.Core.Logic.{_↔_}
+use mathlib.Core.Path.{_≡_, refl, ap, subst, _∙_}
+use mathlib.Core.Logic.{_⊎_, _↔_, inl, inr, ⊎-elim}
 use native.Mathlib.Omega.{arith}
 use Rattle.machine.specs.Rising.{_∈_}
 use Rattle.rule.specs.declared.rrule.Frequency.{Frequency}
@@ -12,7 +12,7 @@ use Rattle.rule.specs.Days.{weekOf}
 use Rattle.rule.specs.Periods.{Period, ofDays, week, month, periodAfter, period}
 use Rattle.rule.specs.Candidates.{candidatesOf, candidates, Chosen.all}
 use Rattle.rule.specs.Satisfies.{Satisfies}
-use Rattle.rule.specs.FromStart.{weekFromStart, periodAfterFromStart, periodFromStart, candidatesFromStart, SatisfiesFromStart}
+use Rattle.rule.specs.FromStart.{periodAfterFromStart, periodFromStart, candidatesFromStart, SatisfiesFromStart}
 use Rattle.rule.specs.FromStart.{InstantsStay, PeriodsStay, LaterPeriodsStay, EndsStay}
 use Rattle.rule.proofs.Members.{member}
 use Rattle.rule.proofs.Listed.{week-days-are}
@@ -21,47 +21,49 @@ use Rattle.rule.proofs.SoundPeriods.{there}
 
 -- ---- the periods
 
--- a week that begins on the start's day is whole either way
-same-week : (d w n : ℕ) → w ≡ d → week w n ≡ weekFromStart d w n
-same-week d w zero e = let z : w + 7 * 0 ≡ w = omega arith in rw z (ap (λ (a : ℕ). ofDays a (min (w + 7) rangeEnd)) e)
-same-week d w (suc n) e = refl
+abbrev FirstWeek : Frequency → ℕ → Type 0
+FirstWeek f n = (f ≡ Frequency.Weekly) × (n ≡ 0)
 
 module _ (wkst s : ℕ) where
-  same-after : (f : Frequency) → (f ≡ Frequency.Weekly → weekOf wkst (dayOf s) ≡ dayOf s) → (n : ℕ) → periodAfter f wkst s n ≡ periodAfterFromStart f wkst s n
-  unfolding periodAfter periodAfterFromStart month
-  same-after Frequency.Yearly h n = refl
-  same-after Frequency.Monthly h n = refl
-  same-after Frequency.Weekly h n = same-week (dayOf s) (weekOf wkst (dayOf s)) n (h refl)
-  same-after Frequency.Daily h n = refl
-  same-after Frequency.Hourly h n = refl
-  same-after Frequency.Minutely h n = refl
-  same-after Frequency.Secondly h n = refl
+  abbrev Alike : Frequency → ℕ → Type 0
+  Alike f n = periodAfter f wkst s n ≡ periodAfterFromStart f wkst s n
 
-  same-later : (f : Frequency) (n : ℕ) → 1 ≤ n → periodAfter f wkst s n ≡ periodAfterFromStart f wkst s n
+  -- the two differ in week period 0 alone
+  alike : (f : Frequency) (n : ℕ) → Alike f n ⊎ FirstWeek f n
   unfolding periodAfter periodAfterFromStart month
-  same-later Frequency.Yearly n h = refl
-  same-later Frequency.Monthly n h = refl
-  same-later Frequency.Weekly zero h = absurd (omega arith)
-  same-later Frequency.Weekly (suc n) h = refl
-  same-later Frequency.Daily n h = refl
-  same-later Frequency.Hourly n h = refl
-  same-later Frequency.Minutely n h = refl
-  same-later Frequency.Secondly n h = refl
+  alike Frequency.Yearly n = inl refl
+  alike Frequency.Monthly n = inl refl
+  alike Frequency.Weekly zero = inr (refl, refl)
+  alike Frequency.Weekly (suc n) = inl refl
+  alike Frequency.Daily n = inl refl
+  alike Frequency.Hourly n = inl refl
+  alike Frequency.Minutely n = inl refl
+  alike Frequency.Secondly n = inl refl
+
+  -- that one is the same where the start's day is the first of its week
+  first-week : weekOf wkst (dayOf s) ≡ dayOf s → Alike Frequency.Weekly 0
+  unfolding periodAfter periodAfterFromStart
+  first-week e =
+      let z : weekOf wkst (dayOf s) + 7 * 0 ≡ weekOf wkst (dayOf s) = omega arith in
+      rw z (ap (λ (a : ℕ). ofDays a (min (weekOf wkst (dayOf s) + 7) rangeEnd)) e)
+
+  same-after : (f : Frequency) (n : ℕ) → (f ≡ Frequency.Weekly → weekOf wkst (dayOf s) ≡ dayOf s) → Alike f n
+  same-after f n h = ⊎-elim (λ (e : Alike f n). e) (λ (q : FirstWeek f n). rw (q .0, q .1) (first-week (h (q .0)))) (alike f n)
+
+  same-later : (f : Frequency) (n : ℕ) → 1 ≤ n → Alike f n
+  same-later f n h = ⊎-elim (λ (e : Alike f n). e) (λ (q : FirstWeek f n). absurd (omega (arith, q .1))) (alike f n)
+
+  first-end : periodAfter Frequency.Weekly wkst s 0 .ends ≡ periodAfterFromStart Frequency.Weekly wkst s 0 .ends
+  unfolding periodAfter periodAfterFromStart
+  first-end = omega arith
 
   same-end : (f : Frequency) (n : ℕ) → periodAfter f wkst s n .ends ≡ periodAfterFromStart f wkst s n .ends
-  unfolding periodAfter periodAfterFromStart month
-  same-end Frequency.Yearly n = refl
-  same-end Frequency.Monthly n = refl
-  same-end Frequency.Weekly zero = omega arith
-  same-end Frequency.Weekly (suc n) = refl
-  same-end Frequency.Daily n = refl
-  same-end Frequency.Hourly n = refl
-  same-end Frequency.Minutely n = refl
-  same-end Frequency.Secondly n = refl
+  same-end f n =
+      ⊎-elim (λ (e : Alike f n). ap (λ (p : Period). p .ends) e) (λ (q : FirstWeek f n). rw (q .0, q .1) first-end) (alike f n)
 
 pub periods-stay : PeriodsStay
 unfolding period periodFromStart
-periods-stay r h k = same-after (r .wkst) (second (r .start)) (r .freq) h (k * r .interval)
+periods-stay r h k = same-after (r .wkst) (second (r .start)) (r .freq) (k * r .interval) h
 
 pub later-periods-stay : LaterPeriodsStay
 unfolding period periodFromStart
@@ -77,30 +79,26 @@ module _ (r : Rule) (s : ℕ) (after : second (r .start) ≤ s) where
   abbrev Same : Period → Period → Type 0
   Same p q = (s ∈ candidatesOf r p) ↔ (s ∈ candidatesOf r q)
 
-  unmoved : (p : Period) → Same p p
-  unmoved p = (λ m. m, λ m. m)
-
   -- the days before the start's have none of them
-  from-the-start : (w : ℕ) → w ≤ dayOf (second (r .start)) → r .freq ≡ Frequency.Weekly → Same (week w 0) (weekFromStart (dayOf (second (r .start))) w 0)
-  from-the-start w l e =
+  in-first-week : r .freq ≡ Frequency.Weekly
+      → Same (periodAfter Frequency.Weekly (r .wkst) (second (r .start)) 0) (periodAfterFromStart Frequency.Weekly (r .wkst) (second (r .start)) 0)
+  unfolding periodAfter periodAfterFromStart
+  in-first-week e =
       let d : ℕ = dayOf (second (r .start)) in
+      let w : ℕ = weekOf (r .wkst) d in
       let a = week-days-are r e (w + 7 * 0) (min (w + 7 * 0 + 7) rangeEnd) s in
       let b = week-days-are r e d (min (w + 7) rangeEnd) s in (
-        λ m. let q = a .0 m in b .1 (omega arith, (omega (arith, q .1)), q .2, q .3),
-        λ m. let q = b .0 m in a .1 (omega (arith, q .0), (omega (arith, q .1)), q .2, q .3),
+        λ m. let q = a .0 m in b .1 (omega arith, omega (arith, q .1), q .2, q .3),
+        λ m. let q = b .0 m in a .1 (omega (arith, q .0), omega (arith, q .1), q .2, q .3),
       )
 
   same-candidates : (f : Frequency) → r .freq ≡ f → (n : ℕ)
       → Same (periodAfter f (r .wkst) (second (r .start)) n) (periodAfterFromStart f (r .wkst) (second (r .start)) n)
-  unfolding periodAfter periodAfterFromStart month
-  same-candidates Frequency.Yearly e n = unmoved _
-  same-candidates Frequency.Monthly e n = unmoved _
-  same-candidates Frequency.Weekly e zero = from-the-start (weekOf (r .wkst) (dayOf (second (r .start)))) (omega arith) e
-  same-candidates Frequency.Weekly e (suc n) = unmoved _
-  same-candidates Frequency.Daily e n = unmoved _
-  same-candidates Frequency.Hourly e n = unmoved _
-  same-candidates Frequency.Minutely e n = unmoved _
-  same-candidates Frequency.Secondly e n = unmoved _
+  same-candidates f e n =
+      ⊎-elim
+      (λ (h : Alike (r .wkst) (second (r .start)) f n). subst (Same (periodAfter f (r .wkst) (second (r .start)) n)) h (λ m. m, λ m. m))
+      (λ (q : FirstWeek f n). rw (q .0, q .1) (in-first-week (e ∙ q .0)))
+      (alike (r .wkst) (second (r .start)) f n)
 
   same-members : (k : ℕ) → (s ∈ candidates r k) ↔ (s ∈ candidatesFromStart r k)
   unfolding candidates candidatesFromStart period periodFromStart
