@@ -28,7 +28,7 @@ function date_reached(cursor,    parts, steps, day, date, months) {
     day = int(start / 86400)
     if (frequency > 3) return date_of_day(int((start + steps * (frequency == 4 ? 3600 : frequency == 5 ? 60 : 1)) / 86400))
     if (frequency == 3) return date_of_day(day + steps)
-    if (frequency == 2) return date_of_day(steps == 0 ? day : day - (day + 3 + 7 - week_start) % 7 + 7 * steps)
+    if (frequency == 2) return date_of_day(day - (day + 3 + 7 - week_start) % 7 + 7 * steps)
     date = date_of_day(day)
     months = 12 * substr(date, 1, 4) + substr(date, 6, 2) - 1 + steps * (frequency == 0 ? 12 : 1)
     return sprintf("%04d-%02d-01", int(months / 12), frequency == 0 ? 1 : months % 12 + 1)

@@ -39,7 +39,7 @@ chart-3 = refl
 -- WEEKLY;BYDAY=MO,FR;BYSETPOS=1;COUNT=2 from 2024-01-03
 chart-4 :
     play (raw 2 1 (Count.Times 2) Until.Absent 0 1704240000 (rawLists [] [] [] [] (pos 0 ∷ pos 0 ∷ []) (pos 0 ∷ pos 4 ∷ []) [] [] [] (pos 1 ∷ []))) (of 4 1000 ∷ [])
-    ≡ answers (told Stop.Ended (at (State.Ended Cause.Count) 1 1 2) 1 2 (1704412800 ∷ 1704672000 ∷ 102 ∷ 103 ∷ []) ∷ [])
+    ≡ answers (told Stop.Ended (at (State.Ended Cause.Count) 2 1 2) 2 2 (1704672000 ∷ 1705276800 ∷ 102 ∷ 103 ∷ []) ∷ [])
 unfolding play playFrom runs after walk atCandidate counted moveOn leap newYear daysBeforeMonth
 chart-4 = refl
 

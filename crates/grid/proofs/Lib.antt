@@ -8,5 +8,6 @@ pub mod Secondly
 pub mod Filling
 pub mod Refusals
 pub mod Cursors
+pub mod Weeks
 pub mod Faults
 pub mod Positions

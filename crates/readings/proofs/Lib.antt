@@ -1,2 +1,3 @@
+pub mod FirstWeek
 pub mod Readings
 pub mod WrongVersions

@@ -23,7 +23,7 @@ reading-9a :
 unfolding play playFrom runs after walk atCandidate counted moveOn leap newYear daysBeforeMonth
 reading-9a = refl
 
--- reading 9: week period 0 begins at midnight of the start's day
+-- reading 9: a candidate of the start's own day before the start counts for BYSETPOS
 reading-9b :
     play (raw 2 1 Count.Absent Until.Absent 0 1704261600 (rawLists [] [] [] [] (pos 0 ∷ []) (pos 2 ∷ []) (pos 0 ∷ pos 12 ∷ []) [] [] (pos 1 ∷ []))) (of 2 5 ∷ [])
     ≡ answers (told Stop.More (at State.Running 2 1 2) 2 2 (1704844800 ∷ 1705449600 ∷ []) ∷ [])
@@ -214,15 +214,15 @@ reading-13q = refl
 
 -- reading 10: the first second after the cut week is 253402300800
 reading-13r :
-    playFrom (at State.Running 0 0 86400) (raw 2 1 Count.Absent Until.Absent 0 253402214400 (rawLists [] [] [] [] (pos 0 ∷ []) (pos 0 ∷ []) [] [] [] [])) (of 1 5 ∷ [])
-    ≡ answers (told Stop.Ended (at (State.Ended Cause.Range) 0 0 86400) 0 0 (100 ∷ []) ∷ [])
+    playFrom (at State.Running 0 1 86400) (raw 2 1 Count.Absent Until.Absent 0 253402214400 (rawLists [] [] [] [] (pos 0 ∷ []) (pos 0 ∷ []) [] [] [] [])) (of 1 5 ∷ [])
+    ≡ answers (told Stop.Ended (at (State.Ended Cause.Range) 0 1 86400) 0 0 (100 ∷ []) ∷ [])
 unfolding play playFrom runs after walk atCandidate counted moveOn leap newYear daysBeforeMonth
 reading-13r = refl
 
 -- one more is 21
 reading-13s :
-    playFrom (at State.Running 0 0 86401) (raw 2 1 Count.Absent Until.Absent 0 253402214400 (rawLists [] [] [] [] (pos 0 ∷ []) (pos 0 ∷ []) [] [] [] [])) (of 1 5 ∷ [])
-    ≡ answers (told (Stop.Refused Fault.Cursor) (at State.Running 0 0 86401) 0 0 (100 ∷ []) ∷ [])
+    playFrom (at State.Running 0 1 86401) (raw 2 1 Count.Absent Until.Absent 0 253402214400 (rawLists [] [] [] [] (pos 0 ∷ []) (pos 0 ∷ []) [] [] [] [])) (of 1 5 ∷ [])
+    ≡ answers (told (Stop.Refused Fault.Cursor) (at State.Running 0 1 86401) 0 0 (100 ∷ []) ∷ [])
 unfolding play playFrom runs after walk atCandidate counted moveOn leap newYear daysBeforeMonth
 reading-13s = refl
 

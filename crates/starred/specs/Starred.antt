@@ -30,7 +30,7 @@ starred =
     -- WEEKLY;BYDAY=MO,FR;BYSETPOS=1;COUNT=2 from Wednesday 2024-01-03
     accepted 2 1704240000 (BYDAY (pos 0 ∷ pos 0 ∷ []) (pos 0 ∷ pos 4 ∷ []) ++ BYSETPOS (pos 1 ∷ []) ++ COUNT 2)
     (with 3 99 ∷ [])
-    (told Stop.Ended (State.Ended Cause.Count) 1 1 2 1 2 (1704412800 ∷ 1704672000 ∷ 9223372036854775805 ∷ [])
+    (told Stop.Ended (State.Ended Cause.Count) 2 1 2 2 2 (1704672000 ∷ 1705276800 ∷ 9223372036854775805 ∷ [])
     ∷ []) ∷
     -- MONTHLY;BYDAY=5MO;COUNT=2 from 2024-01-01
     accepted 1 1704067200 (BYDAY (pos 5 ∷ []) (pos 0 ∷ []) ++ COUNT 2)
