@@ -19,6 +19,7 @@ MONTH = "MONTHLY stops early when INTERVAL is near 65535"
 ROUNDS = "The crate gives up after 100,000 rounds, for good"
 PUBLIC = "The crate's public iterator keeps the limit to itself"
 YEAR_10000 = "The crate runs on through the year 10000"
+FIRST_WEEK = "The first week is whole"
 LAST_WEEK = "The last week of 9999 is not cut"
 NTH_FROM_WEEKLY = "n in BYDAY makes every day pass from WEEKLY on"
 NTH_BESIDE_WEEKS = "n in BYDAY beside BYWEEKNO"
@@ -121,10 +122,22 @@ def month(case):
     return is_near and case.theirs.stop == ENDED and begins and months_of(case.difference) > last_month(case.rule)
 
 
+def counts_days(rule, first, last):
+    """Whether BYSETPOS counts in weeks, and one of these days of a week passes."""
+    return rule.freq == WEEKLY and rule.bysetpos != [] and any(True for _ in model.Days(filled(rule)).between(first, last))
+
+
+def first_week(case):
+    """A day of the start's week, before the start's own, passes, and the difference is in that week."""
+    start_day = case.rule.start // DAY
+    begin = model.week_begin(start_day, case.rule.wkst)
+    return case.difference // DAY < begin + 7 and counts_days(case.rule, begin, start_day - 1)
+
+
 def last_week(case):
+    """A day of the last week, after 9999, passes, and the difference is in that week."""
     begin = model.week_begin(model.LAST_DAY, case.rule.wkst)
-    is_cut = begin + 6 > model.LAST_DAY
-    return case.rule.freq == WEEKLY and case.rule.bysetpos != [] and is_cut and case.difference // DAY >= begin
+    return case.difference // DAY >= begin and counts_days(case.rule, model.LAST_DAY + 1, begin + 6)
 
 
 # entry: its rule, and the places in the Rust that compare/differences.d/explain can mend. After one wrong move others follow, so
@@ -137,6 +150,7 @@ LISTED_OTHERWISE = {
     JANUARY: (lambda case: misnumbered(case, january_numbers), {"last-year"}),
     DECEMBER: (lambda case: misnumbered(case, december_numbers), {"from-the-end"}),
     MONTH: (month, {"month"}),
+    FIRST_WEEK: (first_week, {"first-week"}),
     LAST_WEEK: (last_week, {"last-week"}),
 }
 
@@ -307,9 +321,7 @@ def day_by_day(rule):
 
 def first_end(rule):
     """COUNT or UNTIL alone, the one that comes first. Of COUNT no more matters than is compared."""
-    filled = model.Rule(written(rule))
-    filled.fill_in()
-    listed = sum(1 for _ in islice(model.satisfying(filled), min(rule.count, COMPARED)))
+    listed = sum(1 for _ in islice(model.satisfying(filled(rule)), min(rule.count, COMPARED)))
     return {"until": None} if listed == rule.count else {"count": None}
 
 
@@ -353,6 +365,13 @@ def as_the_rust_reads(rule):
     if rule.start > LAST:
         return entries + [OUT_OF_RANGE], None
     return entries, None if model.refusal(changed) else written(changed)
+
+
+def filled(rule):
+    """The rule filled in; itself it stays as it is."""
+    copy = model.Rule(written(rule))
+    copy.fill_in()
+    return copy
 
 
 def written(rule):

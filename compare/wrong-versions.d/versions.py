@@ -16,10 +16,16 @@ FREQUENCY = "Rattle.rule.specs.declared.rrule.Frequency.{Frequency}"
 PLUS = "Prim.Native.Nat.{_+_}"
 SUC = "Prim.Native.Nat.{suc}"
 LEB = "lib.Dec.{leb}"
+LTB = "lib.Dec.{ltb}"
+EQB = "lib.Dec.{eqb}"
+MAX = "Prim.Native.Nat.{max}"
+IS_EMPTY = "Rattle.rule.specs.Lists.{isEmpty}"
+EARLY = "Rattle.machine.specs.Run.{early}"
 
 DAYS, TIMES, CANDIDATES, MOVES = "rule/Days", "rule/Times", "rule/Candidates", "rule/Moves"
 PERIODS, RUN, LISTS, REFUSALS, FILLING = "rule/Periods", "rule/Run", "rule/Lists", "rule/Refusals", "rule/Filling"
 CURSORS, GIVEN, FAULTS, CALLS = "machine/Cursors", "machine/Given", "machine/Faults", "machine/Calls"
+TURNS, WALKS = "machine/Run", "machine/Compute"
 
 
 # The lists that are refused with these frequencies: no rule shows how they are read there.
@@ -365,7 +371,8 @@ PLACES = "leb (c .place) (length (g .kept (c .k)))"
 NUMBER = "leb (c .number) (next g c - g .start)"
 NEXT = "getD (g .kept (c .k)) (c .place) (g .ends (c .k))"
 BELOW_COUNT = "below (present b) n = ltb n b"
-WEEK_ZERO = "week d w zero = ofDays (weekZero d w) (min (w + 7) rangeEnd)"
+WEEK = "week w n = ofDays (w + 7 * n) (min (w + 7 * n + 7) rangeEnd)"
+UNCUT = "week w n = ofDays (w + 7 * n) (w + 7 * n + 7)"
 FORMED = "formedIn State.Running g c = poised g c"
 ENDED = "formedIn (State.Ended cause) g c = true\n"
 CAUSES = {"Count": "count", "Interval": "interval", "Until": "until", "NoTick": "no-tick", "Range": "range"}
@@ -384,8 +391,8 @@ BOUNDS = (
     ("seconds before the start count", CURSORS, NUMBER, "leb (c .number) ((next g c - g .start) + (g .start - next g c))", [], "one-before-the-start"),
     ("a candidate before the start refused", CURSORS, NUMBER, f"(leb (g .start) (next g c) && {NUMBER})", [], "none-before-the-start"),
     ("UNTIL counts", CURSORS, NUMBER, f"({NUMBER} && not (above (g .until) (next g c)))", [NOT, "Rattle.machine.specs.Given.{above}"], "past-until"),
-    ("the last week isn't cut", PERIODS, WEEK_ZERO, "week d w zero = ofDays (weekZero d w) (w + 7)", [], "beyond-last-week-end"),
-    ("the last week is cut a day early", PERIODS, WEEK_ZERO, WEEK_ZERO.replace("rangeEnd", "(rangeEnd - 1)"), [], "to-last-week-end"),
+    ("the last week isn't cut", PERIODS, WEEK, UNCUT, [], "beyond-last-week-end"),
+    ("the last week is cut a day early", PERIODS, WEEK, WEEK.replace("rangeEnd", "(rangeEnd - 1)"), [], "to-last-week-end"),
 )
 
 
@@ -395,6 +402,67 @@ def cursor_bounds():
     for cause, case in CAUSES.items():
         new = "".join(f"formedIn (State.Ended Cause.{other}) g c = {'poised g c' if other == cause else 'true'}\n" for other in CAUSES)
         yield Version(f"ended by {cause} has to be well formed", Edit(CURSORS, ENDED, new, []), "Cursors", f"ended-by-{case}")
+
+
+# The first week.
+
+WEEKLY = "periodAfter Frequency.Weekly wkst s n = "
+WEEKS = WEEKLY + "week (weekOf wkst (dayOf s)) n"
+FIRST, BEHIND = "weekOf wkst (dayOf s) + 7 * n", "(min (weekOf wkst (dayOf s) + 7 * n + 7) rangeEnd)"
+PERIOD_AFTER = "periodAfter (r .freq) (r .wkst) (second (r .start)) (k * r .interval)"
+PERIOD = f"unfolding periodAfter\nperiod r k = {PERIOD_AFTER}"
+WITHOUT_POSITIONS = "isEmpty (r .bysetpos) && (same (r .freq) Frequency.Weekly && eqb (k * r .interval) 0)"
+WITH_POSITIONS_ALONE = f"""unfolding periodAfter isEmpty
+period r k =
+    let p : Period = {PERIOD_AFTER} in
+    record {{ begins = if {WITHOUT_POSITIONS} then dayOf (second (r .start)) * 86400 else p .begins; ends = p .ends }}"""
+AT_CANDIDATE = "atCandidate g x c = elim (late g x) ["
+PASSED = "| true ↦ leaves (pass c)"
+FULL = "walk g (x ∷ xs) s = elim (full s) ["
+TO_THE_END = f"({NUMBER} || ltb (next g c) (g .start) && leb (c .number) (g .ends (c .k) - g .start))"
+WEEK_STARTS = ("monday", "tuesday", "wednesday", "thursday", "friday", "saturday", "sunday")
+CUT_BY_THE_START = tuple(f"from-{a}-on-{b}" for a in WEEK_STARTS for b in WEEK_STARTS if a != b)
+FROM_THE_WEEK_START = tuple(f"from-{day}-on-{day}" for day in WEEK_STARTS[1:])
+EVERY_OTHER = tuple(f"every-other-week-from-{day}" for day in WEEK_STARTS if day != "wednesday")  # the start is a Wednesday
+SECOND_IN_1970 = tuple(f"in-1970-from-{day}-second" for day in WEEK_STARTS if day != "thursday")  # 1970-01-01 is a Thursday
+MONDAY_OF_1969 = tuple(f"in-1970-from-{day}" for day in ("friday", "saturday", "sunday", "monday"))
+UNTIL_BEFORE = ("until-among-those-before", "until-before-the-first")
+AT_PLACES = ("place-0", "place-1", "place-1-beyond", "place-2", "place-2-beyond", "place-3", "without-positions")
+AT_PLACES_OF_1970 = ("in-1970-place-0", "in-1970-place-1", "in-1970-place-1-beyond", "in-1970-place-2", "december-alone")
+FIRST_WEEKS = (  # what is told of it, its place and text, the text instead, what that uses, and the cases
+    ("it begins on the start's day", PERIODS, WEEKS, f"{WEEKLY}ofDays (if eqb n 0 then dayOf s else {FIRST}) {BEHIND}", [IF, EQB],
+     CUT_BY_THE_START + EVERY_OTHER + SECOND_IN_1970 + MONDAY_OF_1969 + UNTIL_BEFORE + AT_PLACES + AT_PLACES_OF_1970
+     + ("first-alone", "every-other-week", "in-1970-first", "in-9999-first", "in-9999-place-0", "in-9999-place-1")),
+    ("seven days from the start", PERIODS, WEEKS, f"{WEEKLY}week (dayOf s) n", [],
+     ("first-alone", "from-thursday-on-sunday", "place-3-beyond", "in-1970-place-2-beyond")),
+    ("later ones begin on the start's weekday", PERIODS, WEEKS, f"{WEEKLY}ofDays (if eqb n 0 then {FIRST} else dayOf s + 7 * n) {BEHIND}", [IF, EQB],
+     EVERY_OTHER + ("first-alone", "in-1970-first")),
+    ("from Monday", PERIODS, WEEKS, f"{WEEKLY}week (weekOf 0 (dayOf s)) n", [], FROM_THE_WEEK_START
+     + ("every-other-week-from-wednesday", "in-1970-from-tuesday", "in-1970-from-wednesday", "in-1970-from-thursday", "in-1970-from-thursday-second")),
+    ("from Sunday", PERIODS, WEEKS, f"{WEEKLY}week (weekOf 6 (dayOf s)) n", [], ("from-monday-on-monday",)),
+    ("whole with BYSETPOS alone", PERIODS, PERIOD, WITH_POSITIONS_ALONE, [IF, EQB, AND, SAME, IS_EMPTY], MONDAY_OF_1969 + AT_PLACES + AT_PLACES_OF_1970),
+    ("days of 1969 cut off", PERIODS, WEEK, WEEK.replace("(w + 7 * n) ", "(max (w + 7 * n) 719162) "), [MAX],
+     SECOND_IN_1970 + MONDAY_OF_1969 + AT_PLACES_OF_1970 + ("in-1970-first",)),
+    ("days of 1969 judged as 1 January 1970", DAYS, "(dateOf d) d", "(dateOf (max d 719162)) d", [MAX], ("january-alone", "december-alone")),
+    ("beginning in 1969 it is out of range", PERIODS, IN_RANGE, IN_RANGE.replace("= ", "= leb (719162 * 86400) (period r k .begins) && "), [LEB, AND],
+     SECOND_IN_1970 + MONDAY_OF_1969),
+    ("not cut at the end", PERIODS, WEEK, UNCUT, [], ("in-9999-cut", "in-9999-place-1-beyond")),
+    ("cut a day early", PERIODS, WEEK, WEEK.replace("rangeEnd", "(rangeEnd - 1)"), [], ("in-9999-last", "in-9999-cut", "in-9999-place-1")),
+    ("a place too many", CURSORS, PLACES, PLACES[:-1] + " + 1)", [], ("place-4", "december-beyond")),
+    ("the number wraps", CURSORS, NUMBER, f"(ltb (next g c) (g .start) || {NUMBER})", [OR, LTB], ("place-0-beyond", "in-1970-place-0-beyond")),
+    ("the number to the week's end", CURSORS, NUMBER, TO_THE_END, [OR, LTB], ("place-0-beyond", "in-9999-place-0")),
+    ("UNTIL not looked at before the start", TURNS, AT_CANDIDATE, AT_CANDIDATE.replace("late g x", "late g x && not (early g x)"), [AND, NOT], UNTIL_BEFORE),
+    ("handed out before the start", TURNS, PASSED, PASSED.replace("leaves (pass c)", "hands x (counted g (handOut (pass c)))"), [],
+     MONDAY_OF_1969 + ("without-positions",)),
+    ("the place counts from the start", TURNS, PASSED, PASSED.replace("pass c", "c"), [], MONDAY_OF_1969 + ("without-positions",)),
+    ("passed though the buffer is full", WALKS, FULL, FULL.replace("full s", "full s && not (early g x)"), [AND, NOT, EARLY], ("without-room",)),
+)
+
+
+def first_weeks():
+    for told, path, old, new, uses, cases in FIRST_WEEKS:
+        for case in cases:
+            yield Version(f"first week: {told}, {case}", Edit(path, old, new, uses), "Weeks", case)
 
 
 def faults():
@@ -409,6 +477,6 @@ def faults():
 def versions():
     kinds = (
         passed_over, one_ended, nths, moves, fillings, numbers, ranges, tests_of_lists, positions_alone, counts, misplaced,
-        cursors_by_frequency, cursor_bounds, faults,
+        cursors_by_frequency, cursor_bounds, first_weeks, faults,
     )
     return [version for kind in kinds for version in kind()]
