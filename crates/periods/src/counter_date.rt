@@ -33,7 +33,7 @@ const RANGE: u64 = 315537897600;
 // The day after 9999.
 const RANGE_END: u64 = 3652059;
 
-// The counter of period k where it begins in range, else Range.
+// The counter of period k where the start is in range and the period begins in it, else Range.
 pub fn counter_at(freq: Frequency, interval: u16, wkst: u8, start: u64, k: u64) -> Reached
     ensures { λ r. ⌜ r ≡ reachedAt (ruleFrom freq interval wkst start) k ⌝ }
 {

@@ -214,14 +214,16 @@ reading-13q = refl
 
 -- reading 10: the first second after the cut week is 253402300800
 reading-13r :
-    playFrom (at State.Running 0 1 86400) (raw 2 1 Count.Absent Until.Absent 0 253402214400 (rawLists [] [] [] [] (pos 0 ∷ []) (pos 0 ∷ []) [] [] [] [])) (of 1 5 ∷ [])
+    playFrom (at State.Running 0 1 86400)
+    (raw 2 1 Count.Absent Until.Absent 0 253402214400 (rawLists [] [] [] [] (pos 0 ∷ []) (pos 0 ∷ []) [] [] [] [])) (of 1 5 ∷ [])
     ≡ answers (told Stop.Ended (at (State.Ended Cause.Range) 0 1 86400) 0 0 (100 ∷ []) ∷ [])
 unfolding play playFrom runs after walk atCandidate counted moveOn leap newYear daysBeforeMonth
 reading-13r = refl
 
 -- one more is 21
 reading-13s :
-    playFrom (at State.Running 0 1 86401) (raw 2 1 Count.Absent Until.Absent 0 253402214400 (rawLists [] [] [] [] (pos 0 ∷ []) (pos 0 ∷ []) [] [] [] [])) (of 1 5 ∷ [])
+    playFrom (at State.Running 0 1 86401)
+    (raw 2 1 Count.Absent Until.Absent 0 253402214400 (rawLists [] [] [] [] (pos 0 ∷ []) (pos 0 ∷ []) [] [] [] [])) (of 1 5 ∷ [])
     ≡ answers (told (Stop.Refused Fault.Cursor) (at State.Running 0 1 86401) 0 0 (100 ∷ []) ∷ [])
 unfolding play playFrom runs after walk atCandidate counted moveOn leap newYear daysBeforeMonth
 reading-13s = refl

@@ -86,7 +86,7 @@ every y (x ∷ xs) m =
     ⊎-elim (λ (e : y ≡ x). record { i = 0; below = omega arith; is-y = sym e; choice = tt })
     (λ (k : List·Memᴰ y xs). later (λ i. true) y x xs (every y xs k)) (List·Memᴰ·cases-cons m)
 
-there : (y : ℕ) (xs : List ℕ) (i : ℕ) → i < length xs → getD xs i 0 ≡ y → List·Memᴰ y xs
+pub there : (y : ℕ) (xs : List ℕ) (i : ℕ) → i < length xs → getD xs i 0 ≡ y → List·Memᴰ y xs
 there y [] i h e = absurd (omega arith)
 there y (x ∷ xs) zero h e = List·Memᴰ·head (sym e)
 there y (x ∷ xs) (suc i) h e = List·Memᴰ·tail (there y xs i (omega arith) e)

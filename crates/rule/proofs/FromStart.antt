@@ -1,9 +1,12 @@
 -- Between the periods whose week period 0 begins on the start's own day and those whose week period 0 is whole: what stays.
 -- Assumes nothing.
-use Prim.Native.Nat.{ℕ, zero, suc, _+_, _*_, min, _≤_}
+use Prim.Native.Nat.{ℕ, zero, suc, _+_, _*_, min, _≤_, _<_}
 use mathlib.Core.Path.{_≡_, refl, ap, subst, _∙_}
 use mathlib.Core.Logic.{_⊎_, _↔_, inl, inr, ⊎-elim}
+use mathlib.Core.Bool.{true}
+use mathlib.Core.List.{List}
 use native.Mathlib.Omega.{arith}
+use lib.ListN.{length, getD}
 use Rattle.machine.specs.Rising.{_∈_}
 use Rattle.rule.specs.declared.rrule.Frequency.{Frequency}
 use Rattle.rule.specs.declared.rrule.Rule.{Rule}
@@ -14,10 +17,9 @@ use Rattle.rule.specs.Candidates.{candidatesOf, candidates, Chosen.all}
 use Rattle.rule.specs.Satisfies.{Satisfies}
 use Rattle.rule.specs.FromStart.{periodAfterFromStart, periodFromStart, candidatesFromStart, SatisfiesFromStart}
 use Rattle.rule.specs.FromStart.{InstantsStay, PeriodsStay, LaterPeriodsStay, EndsStay}
-use Rattle.rule.proofs.Members.{member}
+use Rattle.rule.proofs.Members.{in-list, member}
 use Rattle.rule.proofs.Listed.{week-days-are}
-use Rattle.rule.proofs.Chosen.{every}
-use Rattle.rule.proofs.SoundPeriods.{there}
+use Rattle.rule.proofs.Chosen.{Nth, every, there}
 
 -- ---- the periods
 
@@ -106,19 +108,25 @@ module _ (r : Rule) (s : ℕ) (after : second (r .start) ≤ s) where
 
 -- ---- the instants
 
+-- a member of one list that is one of another has its number there
+numbered : (s : ℕ) (xs ys : List ℕ) → (s ∈ xs → s ∈ ys) → (j : ℕ) → j < length xs → getD xs j 0 ≡ s → Nth (λ i. true) s ys
+numbered s xs ys f j h e = every s ys (member s ys (f (in-list s xs (there s xs j h e))))
+
 pub instants-stay : InstantsStay
 instants-stay r none t = (there-too, back)
   where
+    from : r .start ≤ t → second (r .start) ≤ second t
+    from h = omega arith
+
     there-too : Satisfies r t → SatisfiesFromStart r t
     there-too p =
         let q = p .kept in
-        let l : second (r .start) ≤ second t = let h = p .from-start in omega arith in
-        let m = same-members r (second t) l (p .k) .0 (there (candidates r (p .k)) (q .j) (second t) (q .below) (q .is-s)) in
-        let i = every (second t) (candidatesFromStart r (p .k)) (member (second t) _ m) in
+        let same = same-members r (second t) (from (p .from-start)) (p .k) in
+        let n = numbered (second t) (candidates r (p .k)) (candidatesFromStart r (p .k)) (same .0) (q .j) (q .below) (q .is-s) in
         record {
           instant = p .instant;
           k = p .k;
-          kept = record { j = i .i; below = i .below; is-s = i .is-y; choice = all none };
+          kept = record { j = n .i; below = n .below; is-s = n .is-y; choice = all none };
           from-start = p .from-start;
           to-until = p .to-until;
         }
@@ -126,13 +134,12 @@ instants-stay r none t = (there-too, back)
     back : SatisfiesFromStart r t → Satisfies r t
     back p =
         let q = p .kept in
-        let l : second (r .start) ≤ second t = let h = p .from-start in omega arith in
-        let m = same-members r (second t) l (p .k) .1 (there (candidatesFromStart r (p .k)) (q .j) (second t) (q .below) (q .is-s)) in
-        let i = every (second t) (candidates r (p .k)) (member (second t) _ m) in
+        let same = same-members r (second t) (from (p .from-start)) (p .k) in
+        let n = numbered (second t) (candidatesFromStart r (p .k)) (candidates r (p .k)) (same .1) (q .j) (q .below) (q .is-s) in
         record {
           instant = p .instant;
           k = p .k;
-          kept = record { j = i .i; below = i .below; is-s = i .is-y; choice = all none };
+          kept = record { j = n .i; below = n .below; is-s = n .is-y; choice = all none };
           from-start = p .from-start;
           to-until = p .to-until;
         }

@@ -311,7 +311,7 @@ module _ (r : Rule) (s : ℕ) where
   unfolding timePasses
   time-out p = (and-left h m (and-left (h && m) c p), (and-right h m (and-left (h && m) c p), (and-right (h && m) c p, tt)))
 
--- in words
+-- what is listed from lo up to hi, in words
 abbrev pub Inside : Rule → (lo hi s : ℕ) → Type 0
 Inside r lo hi s = (lo ≤ s) × (s < hi) × (dayPasses r (dayOf s) ≡ true) × (timePasses r s ≡ true)
 

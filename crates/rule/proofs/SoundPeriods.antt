@@ -1,13 +1,12 @@
 -- The rule's own periods and moves obey the laws that the machine asks of a calendar.
 -- Assumes nothing.
-use Prim.Native.Nat.{ℕ, zero, suc, _+_, _-_, _*_, _/_, _%_, min, _≤_, _<_}
-use mathlib.Core.Path.{_≡_, refl, sym, _∙_, ap, subst, subst⁻¹}
+use Prim.Native.Nat.{ℕ, suc, _+_, _-_, _*_, _/_, _%_, min, _≤_, _<_}
+use mathlib.Core.Path.{_≡_, refl, _∙_, ap, subst, subst⁻¹}
 use mathlib.Core.Logic.{_⊎_, inl, inr, ⊎-elim}
 use mathlib.Core.Bool.{Bool, true, false}
 use mathlib.Core.List.{List, [], _∷_}
 use native.Mathlib.Omega.{arith}
 use lib.Dec.{ltb}
-use lib.ListN.{length, getD}
 use borrow.Author.Tests.{ltb-true, ltb-false, lt-ltb}
 use Rattle.calendar.specs.Calendar.{newYear, daysBeforeMonth, firstOf, yearOf}
 use Rattle.calendar.proofs.Years.{years-rise, years-grow, year-of-is}
@@ -24,7 +23,7 @@ use Rattle.rule.specs.Run.{periods}
 use Rattle.rule.specs.Meaning.{RisesFrom}
 use Rattle.rule.proofs.Members.{in-list, member}
 use Rattle.rule.proofs.Listed.{candidates-are}
-use Rattle.rule.proofs.Chosen.{kept-are}
+use Rattle.rule.proofs.Chosen.{there, kept-are}
 use Rattle.rule.proofs.Order.{below-or, first, month-next, months-rise, monthIn, month-low, day-times, start-in-period, periods-in-order}
 use Rattle.rule.proofs.Moved.{move-is}
 use Rattle.rule.proofs.Skipped.{no-members, nothing-skipped}
@@ -85,13 +84,8 @@ within-bounds a low high (x ∷ xs) h p m =
     above x (y ∷ ys) q s i = ⊎-elim (λ (e : s ≡ y). omega arith) (λ (j : s ∈ ys). let g : suc y ≤ s = above y ys (q .1) s j in omega arith) i
 
 -- a kept candidate is a candidate
-pub there : (xs : List ℕ) (j s : ℕ) → j < length xs → getD xs j 0 ≡ s → s ∈ xs
-there [] j s h e = absurd (omega arith)
-there (x ∷ xs) zero s h e = inl (sym e)
-there (x ∷ xs) (suc j) s h e = inr (there xs j s (omega arith) e)
-
 pub kept-candidate : (r : Rule) (k s : ℕ) → Kept r k s → Candidate r k s
-kept-candidate r k s q = candidates-are r k .1 s .0 (there (candidates r k) (q .j) s (q .below) (q .is-s))
+kept-candidate r k s q = candidates-are r k .1 s .0 (in-list s _ (there s (candidates r k) (q .j) (q .below) (q .is-s)))
 
 none-kept : (r : Rule) (j : ℕ) → candidates r j ≡ [] → kept r j ≡ []
 none-kept r j e =
