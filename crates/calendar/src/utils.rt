@@ -40,11 +40,13 @@ fn one_less(x: u32) -> u32
     if x == 0 { 0 } else { x - 1 }
 }
 
-// The weekday of 1 January, where Monday is 0.
+// The weekday of 1 January, where Monday is 0. Over whole weeks a year has one day and every fourth year two: 5/4 a year. A hundred years have
+// five, and every fourth hundred six: 21/4 a hundred.
 pub fn weekday_of_new_year(year: u32) -> u8
     ensures { λ r. ⌜ r ≡ weekday (newYear year) ⌝ }
 {
-    (days_before_year(year) % 7) as u8
+    let past = one_less(year);
+    ((5 * (past % 100) / 4 + 21 * (past / 100) / 4) % 7) as u8
 }
 
 // The year of a day: 400 years have 146,097 days, and the year worked out from that is at most one too low.
