@@ -8,7 +8,7 @@ use rule::rrule::Rule;
 
 // How a chain is cut: the room and the budget of each call, how many calls there are at most, and how many instants. Where it is in turns,
 // 0 and 1 in turn stand for a room or a budget of 0. And whether the answers are known.
-#[derive(Drop)]
+#[derive(Clone, Copy)]
 pub struct Cut {
     pub known: bool,
     pub room: usize,
@@ -21,7 +21,7 @@ pub struct Cut {
 // What a chain has come to: how its last call stopped, the cursor, the sums of moves and handed out, whether the rest of the buffer
 // was kept, and the bytes that wait to be written. The stop is a number (stop::stop_number), and the state the place of its word among
 // those of forms.
-#[derive(Drop)]
+#[derive(Clone, Copy)]
 pub struct Chain {
     pub stop: u64,
     pub state: u64,

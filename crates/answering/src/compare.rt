@@ -5,7 +5,7 @@ use words::text;
 
 // Where reading stands: the bytes of the line so far, the bytes that wait to be written, whether the input is over, and whether the
 // answers are known. Then what was compared in a group, once it has begun.
-#[derive(Drop)]
+#[derive(Clone, Copy)]
 pub struct Places {
     pub used: usize,
     pub waiting: usize,

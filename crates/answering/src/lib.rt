@@ -1,5 +1,7 @@
 // Answers lines: a rule a line, in the words of docs/LINES.md. The answers are written; or they are known, stand behind the rules and
 // are compared.
+#![tactic(auto)]
+
 mod alike;
 mod answer;
 mod chain;

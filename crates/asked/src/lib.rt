@@ -1,4 +1,6 @@
 // The rule that the row of a line asks for.
+#![tactic(auto)]
+
 ghost use Rattle.std.specs.Prelude.{◌≡◌, slice_index};
 ghost use Rattle.rule.specs.declared.rrule.Verdict.{Verdict};
 

@@ -3,7 +3,7 @@ ghost use Rattle.std.specs.Prelude.{◌≡◌, ◌-◌};
 ghost use Rattle.calendar.specs.Calendar.{leap, year_length, new_year, year_of, weekday};
 
 // A date: year, month and day of the month count from 1; length is the month's.
-#[derive(Drop)]
+#[derive(Clone, Copy)]
 pub struct Date {
     pub year: u32,
     pub month: u8,

@@ -7,7 +7,7 @@ use basics::lists::is_empty;
 use times::iterinfo::Counts;
 
 // The hours, minutes and seconds that pass, each rising, with zeros behind them, and how many there are.
-#[derive(Drop)]
+#[derive(Clone, Copy)]
 pub struct TimeSet {
     pub lists: [u8; 144],
     pub counts: Counts,

@@ -1,2 +1,4 @@
 // The hours, minutes and seconds that pass.
+#![tactic(auto)]
+
 pub mod iterinfo;

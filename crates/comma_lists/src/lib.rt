@@ -1,4 +1,6 @@
 // The lists of a text: entries joined by commas, at most 749. First it is told where a list stops, and later its entries are put into their slots.
+#![tactic(auto)]
+
 ghost use Rattle.std.specs.Prelude.{◌≡◌, true, map, ◌≤◌, length, drop, set};
 ghost use Rattle.std.proofs.lemmas.List.Edits.{sets};
 ghost use Rattle.recur.specs.Grammar.{nth_of, weekday_of};

@@ -1,2 +1,4 @@
 // The walk over a period's candidates.
+#![tactic(auto)]
+
 pub mod rrule_iter;

@@ -1,2 +1,4 @@
 // Whether a cursor fits the period that is opened.
+#![tactic(auto)]
+
 pub mod cursors;

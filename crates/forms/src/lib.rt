@@ -1,4 +1,6 @@
 // Writes forms through a buffer: texts in which numbers and words are left open. So many bytes of the buffer wait to be written.
+#![tactic(auto)]
+
 ghost use Rattle.std.specs.Prelude.{◌≡◌, ◌≤◌, max, length};
 
 // Each form is a number, by its place in `put_form`.

@@ -11,7 +11,7 @@ use Rattle.machine.specs.declared.Cause.{Cause}
 use Rattle.machine.specs.declared.State.{State}
 use Rattle.machine.specs.declared.Cursor.{Cursor}
 use Rattle.machine.specs.Given.{Given}
-use Rattle.machine.specs.Cursors.{remaining}
+use Rattle.machine.specs.Cursors.{end_by, hand_out, pass, remaining}
 use Rattle.machine.specs.Run.{Deed, Deed.leaves, Deed.hands, Deed.moves, at_candidate, move_on, Call, Now, opened, does, Turn, Turn.stops, Turn.goes}
 use Rattle.machine.specs.Run.{turn, Outcome, Ends, Ends.stop, Ends.again}
 use Rattle.machine.specs.Compute.{run}
@@ -183,12 +183,12 @@ module _ {A : Type 0} (g : Given A) (m : ℕ) (s : Now A) (r : s.cursor.state �
   unfolding at_candidate
   candidate_kept x xs e =
       candidate_tests (KeptBy g m s (goes (does g s (at_candidate g x s.cursor)))) g x
-      (λ a. rw (a, at_candidate) ((λ h. h), (λ cause q. ends_so g _ Cause.Until cause q (x, xs, e, late_above g x a))))
+      (λ a. rw (a, at_candidate) ((λ h. h), (λ cause q. ends_so g (end_by Cause.Until s.cursor) Cause.Until cause q (x, xs, e, late_above g x a))))
       (λ a b. rw (a, b, at_candidate) ((λ h. h), (λ cause q. absurd (runs_on cause q))))
       (λ a b.
       rw (a, b, at_candidate)
       (counted_cases (λ (d : Cursor). KeptBy g m s (goes (does g s (hands x d)))) g _
-      (λ d. ((λ h. h), (λ cause q. ends_so g _ Cause.Count cause q (reached g.count _ d))))
+      (λ d. ((λ h. h), (λ cause q. ends_so g (end_by Cause.Count (hand_out (pass s.cursor))) Cause.Count cause q (reached g.count _ d))))
       (λ d. ((λ h. h), (λ cause q. absurd (runs_on cause q))))))
 
   move_kept : remaining g s.cursor ≡ [] → (s.made ≡ m → ⊥) → KeptBy g m s (goes (does g s (move_on g s.cursor)))
@@ -196,8 +196,8 @@ module _ {A : Type 0} (g : Given A) (m : ℕ) (s : Now A) (r : s.cursor.state �
   move_kept e l =
       move_tests (KeptBy g m s (goes (does g s (move_on g s.cursor)))) g s.cursor
       (λ k q. rw (q, move_on) ((λ h. omega arith), (λ cause w. absurd (runs_on cause w))))
-      (λ q. rw (q, move_on) ((λ h. h), (λ cause w. ends_so g _ Cause.NoTick cause w (e, q))))
-      (λ q. rw (q, move_on) ((λ h. h), (λ cause w. ends_so g _ Cause.Range cause w (e, q))))
+      (λ q. rw (q, move_on) ((λ h. h), (λ cause w. ends_so g (end_by Cause.NoTick s.cursor) Cause.NoTick cause w (e, q))))
+      (λ q. rw (q, move_on) ((λ h. h), (λ cause w. ends_so g (end_by Cause.Range s.cursor) Cause.Range cause w (e, q))))
 
 turn_kept : {A : Type 0} (g : Given A) (m : ℕ) (s : Now A) → KeptBy g m s (turn g m s)
 turn_kept g m s =

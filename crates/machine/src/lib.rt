@@ -1,7 +1,8 @@
 // One run's cursor and answer. What a run does is said in specs/, over any periods and any moves.
+#![tactic(auto)]
 
 // Why a cursor is ended.
-#[derive(Drop)]
+#[derive(Clone, Copy)]
 pub enum Cause {
     Count,
     Interval,
@@ -10,21 +11,21 @@ pub enum Cause {
     Range,
 }
 
-#[derive(Drop)]
+#[derive(Clone, Copy)]
 pub enum State {
     Running,
     Ended(Cause),
 }
 
 // What a run refuses: the record, or the cursor.
-#[derive(Drop)]
+#[derive(Clone, Copy)]
 pub enum Fault {
     Record,
     Cursor,
 }
 
 // Why a call has stopped.
-#[derive(Drop)]
+#[derive(Clone, Copy)]
 pub enum Stop {
     Ended,
     More,
@@ -33,7 +34,7 @@ pub enum Stop {
 }
 
 // The period k, its kept candidates already passed, and the number handed out in all.
-#[derive(Drop)]
+#[derive(Clone, Copy)]
 pub struct Cursor {
     pub state: State,
     pub k: u64,
@@ -42,7 +43,7 @@ pub struct Cursor {
 }
 
 // The moves made and the count handed out are those of this call.
-#[derive(Drop)]
+#[derive(Clone, Copy)]
 pub struct Answer {
     pub stop: Stop,
     pub cursor: Cursor,

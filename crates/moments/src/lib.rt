@@ -1,4 +1,6 @@
 // UNTIL: a date and a time of UTC, read as an instant.
+#![tactic(auto)]
+
 ghost use Rattle.std.specs.Prelude.{◌≡◌, ◌≤◌, length, drop};
 ghost use Rattle.symbols.specs.Readers.{turned};
 ghost use Rattle.calendar.specs.Calendar.{month_length};

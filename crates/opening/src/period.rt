@@ -19,7 +19,7 @@ use weeks::yearinfo::Year;
 use years::lists::Asked;
 
 // A period's frame, and how many of its candidates are kept.
-#[derive(Drop)]
+#[derive(Clone, Copy)]
 pub struct Period {
     pub frame: Frame,
     pub kept: u32,

@@ -1,5 +1,7 @@
 // The edge to C: the check, the fresh cursor and the run, on numbers and slices. A record and a cursor cross as bytes, which are read by
 // functions that are total: whatever bytes come, the answer is one of those that include/yomaveludge.h lists.
+#![tactic(auto)]
+
 ghost use Rattle.std.specs.Prelude.{◌≡◌};
 ghost use Rattle.rule.specs.Raw.{raw, raw_lists};
 ghost use Rattle.rule.specs.Records.{yielded};

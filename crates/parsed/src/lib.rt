@@ -1,4 +1,6 @@
 // A rule's text, read and checked with a start.
+#![tactic(auto)]
+
 ghost use Rattle.std.specs.Prelude.{◌≡◌};
 ghost use Rattle.rule.specs.Raw.{raw_lists};
 ghost use Rattle.rule.specs.Filling.{blank, checked};

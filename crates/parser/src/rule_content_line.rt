@@ -22,7 +22,7 @@ use spelling::{frequency_at, name_at, weekday_at};
 const LONGEST: usize = 16384;
 
 // Where the parts of a text stop, and where the value of each name stands: 0 where there is none.
-#[derive(Drop)]
+#[derive(Clone, Copy)]
 struct Scanned {
     whole: bool,
     place: usize,
@@ -30,7 +30,7 @@ struct Scanned {
 }
 
 // What a text says that isn't in lists.
-#[derive(Drop)]
+#[derive(Clone, Copy)]
 struct Numbers {
     freq: u8,
     interval: u16,
@@ -40,7 +40,7 @@ struct Numbers {
 }
 
 // How many entries four lists have.
-#[derive(Drop)]
+#[derive(Clone, Copy)]
 struct Counts {
     first: usize,
     second: usize,

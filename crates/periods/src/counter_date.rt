@@ -8,7 +8,7 @@ use dates::utils::date_from_ordinal;
 use rule::rrule::Frequency;
 
 // Period k: its number, as its frequency counts, and below DAILY its tick, which is its place in its day.
-#[derive(Drop)]
+#[derive(Clone, Copy)]
 pub struct Counter {
     pub k: u64,
     pub number: u64,
@@ -16,7 +16,7 @@ pub struct Counter {
 }
 
 // A counter in range; or none, as no tick passes; or none, as the period begins after 9999.
-#[derive(Drop)]
+#[derive(Clone, Copy)]
 pub enum Reached {
     To(Counter),
     NoTick,

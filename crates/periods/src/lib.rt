@@ -1,2 +1,4 @@
 // Where a period stands: its counter, and its days.
+#![tactic(auto)]
+
 pub mod counter_date;

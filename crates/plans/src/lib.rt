@@ -1,2 +1,4 @@
 // What a call needs of its rule, made once.
+#![tactic(auto)]
+
 pub mod plan;

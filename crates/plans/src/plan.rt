@@ -17,7 +17,7 @@ const LAST_INSTANT: u64 = 253402300799;
 
 // What the opening of a period asks of a rule, in small: frequency and week start, which day lists there are, whether BYDAY's nth
 // entries count in the year, whether there are positions, and how many hours, minutes and seconds pass.
-#[derive(Drop)]
+#[derive(Clone, Copy)]
 pub struct Shape {
     pub freq: Frequency,
     pub wkst: u8,
@@ -28,7 +28,7 @@ pub struct Shape {
 }
 
 // That and INTERVAL; the hours, minutes and seconds that pass, as flags and as short lists; and the bounds.
-#[derive(Drop)]
+#[derive(Clone, Copy)]
 pub struct Plan {
     pub shape: Shape,
     pub interval: u16,

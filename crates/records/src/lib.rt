@@ -1,4 +1,6 @@
 // Whether a record is one that an accepted check yields. Each flag is read once, with no early exit: a run asks this at every call.
+#![tactic(auto)]
+
 ghost use Rattle.std.specs.Prelude.{◌≡◌, ◌-◌, ◌≤◌, length, take, drop};
 ghost use Rattle.rule.specs.Lists.{is_empty};
 ghost use Rattle.rule.specs.Refusals.{until_out};

@@ -1,15 +1,17 @@
 // The texts of rules (RECUR of RFC 5545): the types of their readers and of the writer, and no function. The code is in the crates from spelling to display.
+#![tactic(auto)]
+
 use rule::rrule::{Count, Refusal, Rule, Until};
 
 // Whether a symbol is whole, and the place where its reader stopped.
-#[derive(Drop)]
+#[derive(Clone, Copy)]
 pub struct Stopped {
     pub whole: bool,
     pub place: usize,
 }
 
 // The same with the symbol's value, which is 0 where it isn't whole.
-#[derive(Drop)]
+#[derive(Clone, Copy)]
 pub struct Reached {
     pub whole: bool,
     pub place: usize,
@@ -17,7 +19,7 @@ pub struct Reached {
 }
 
 // An entry of a list.
-#[derive(Drop)]
+#[derive(Clone, Copy)]
 pub struct ReachedEntry {
     pub whole: bool,
     pub place: usize,
@@ -25,7 +27,7 @@ pub struct ReachedEntry {
 }
 
 // An entry of BYDAY.
-#[derive(Drop)]
+#[derive(Clone, Copy)]
 pub struct ReachedDay {
     pub whole: bool,
     pub place: usize,
@@ -34,7 +36,7 @@ pub struct ReachedDay {
 }
 
 // What a text says, but for the entries of its lists, of which it has the numbers.
-#[derive(Drop)]
+#[derive(Clone, Copy)]
 pub struct Outline {
     pub freq: u8,
     pub interval: u16,
@@ -53,14 +55,14 @@ pub struct Outline {
 }
 
 // A text is read, or refused at a place.
-#[derive(Drop)]
+#[derive(Clone, Copy)]
 pub enum Reading {
     Rule(Outline),
     Refused(usize),
 }
 
 // A rule is written, with the text's length; or the buffer is short of the length needed; or the check refuses the rule.
-#[derive(Drop)]
+#[derive(Clone, Copy)]
 pub enum Written {
     Text(usize),
     Short(usize),
@@ -68,7 +70,7 @@ pub enum Written {
 }
 
 // Of a text and a start: where the text can't be read, why the check refuses the rule, or that it is accepted.
-#[derive(Drop)]
+#[derive(Clone, Copy)]
 pub enum Told {
     Unread(usize),
     Refused(Refusal),
@@ -76,7 +78,7 @@ pub enum Told {
 }
 
 // What is told, and the record: blank unless the rule is accepted.
-#[derive(Drop)]
+#[derive(Clone, Copy)]
 pub struct Parsed {
     pub told: Told,
     pub rule: Rule,

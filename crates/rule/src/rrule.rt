@@ -1,6 +1,6 @@
 // The types of a rule. An instant is a count of UTC seconds since 1970-01-01T00:00:00Z.
 
-#[derive(Drop)]
+#[derive(Clone, Copy)]
 pub enum Frequency {
     Yearly,
     Monthly,
@@ -12,21 +12,21 @@ pub enum Frequency {
 }
 
 // COUNT: absent, or how often.
-#[derive(Drop)]
+#[derive(Clone, Copy)]
 pub enum Count {
     Absent,
     Times(u32),
 }
 
 // UNTIL: absent, or an instant.
-#[derive(Drop)]
+#[derive(Clone, Copy)]
 pub enum Until {
     Absent,
     At(u64),
 }
 
 // A list's range: the values -negatives..-1, then 0 if it is in the range, then 1..positives.
-#[derive(Drop)]
+#[derive(Clone, Copy)]
 pub struct Range {
     pub negatives: usize,
     pub zeroin: bool,
@@ -34,14 +34,14 @@ pub struct Range {
 }
 
 // A value has a slot, counted from the lowest value of its range, or lies outside the range.
-#[derive(Drop)]
+#[derive(Clone, Copy)]
 pub enum Slot {
     At(usize),
     Outside,
 }
 
 // A rule record. Each list has one slot for each value that its range allows, in rising order.
-#[derive(Drop)]
+#[derive(Clone, Copy)]
 pub struct Rule {
     pub freq: Frequency,
     pub interval: u16,
@@ -61,7 +61,7 @@ pub struct Rule {
 }
 
 // Why the check says no: the rows of document 01's table, in its order.
-#[derive(Drop)]
+#[derive(Clone, Copy)]
 pub enum Refusal {
     FrequencyAbove,
     WeekStartAbove,
@@ -77,14 +77,14 @@ pub enum Refusal {
     ListMisplaced,
 }
 
-#[derive(Drop)]
+#[derive(Clone, Copy)]
 pub enum Verdict {
     Accepted,
     Refused(Refusal),
 }
 
 // An enum can't hold an array, so the record stands beside the verdict: blank where the check refuses.
-#[derive(Drop)]
+#[derive(Clone, Copy)]
 pub struct Checked {
     pub verdict: Verdict,
     pub rule: Rule,

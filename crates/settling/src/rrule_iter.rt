@@ -9,7 +9,7 @@ use machine::{Answer, Cause, Cursor, State, Stop};
 use walks::rrule_iter::{Held, Walked, Why};
 
 // What becomes of a call after a walk: it stops with its answer, or moves on.
-#[derive(Drop)]
+#[derive(Clone, Copy)]
 pub enum Settled {
     Stops(Answer),
     Moves,

@@ -1,4 +1,6 @@
 // How a verdict, a cursor and a record are written.
+#![tactic(auto)]
+
 ghost use Rattle.std.specs.Prelude.{◌<◌, ◌≤◌, max, length};
 
 use basics::rrule;
@@ -155,7 +157,7 @@ fn write_set(which: u64, marked: Marked, out: &mut [u8], waiting: usize) -> usiz
     )
 }
 
-#[derive(Drop)]
+#[derive(Clone, Copy)]
 struct Marked {
     count: u64,
     first: u64,

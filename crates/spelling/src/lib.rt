@@ -1,5 +1,7 @@
 // Words of a table, in either letter case: the names of parts, the frequencies and the weekdays. Of several words the one that the text spells is found, or
 // how far the text begins some word.
+#![tactic(auto)]
+
 ghost use Rattle.std.specs.Prelude.{◌≡◌, ◌+◌, ◌≤◌, length, drop, false, []};
 ghost use Rattle.calendar.specs.Calendar.{if◌then◌else◌};
 ghost use Rattle.symbols.specs.Languages.{upper};

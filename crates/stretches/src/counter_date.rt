@@ -7,7 +7,7 @@ use dates::utils::day_of_date;
 use rule::rrule::Frequency;
 
 // The days of a period, or the day that it is a part of: from the first up to the one after the last.
-#[derive(Drop)]
+#[derive(Clone, Copy)]
 pub struct Days {
     pub from: u64,
     pub to: u64,

@@ -1,2 +1,4 @@
 // The days of a period.
+#![tactic(auto)]
+
 pub mod counter_date;

@@ -107,6 +107,7 @@ module _ (S A : Type 0) (take : S → ℕ → List ℕ → Took A) (next : S →
 
   fulls : (n : ℕ) (s : S) → Inv n s → (at : ℕ) (bs : List A) (zs r : List ℕ) → J n s bs zs → Stop Q r
       → reads n s at (zs ++ r) ≡ took true (at + length zs) r bs
+  fulls n s i at [] zs r j h = elim j [ ]
   fulls n s i at (a ∷ []) zs r (one l) h =
       off_by n s at (zs ++ r) (at + length zs) r a ((keeps n s i).full at a zs r l (stop_on P Q ends r h)) (no_head r h)
   fulls (suc n) s i at (a ∷ bs) zs r (more xs ys l j e) h =
@@ -130,6 +131,7 @@ module _ (S A : Type 0) (take : S → ℕ → List ℕ → Took A) (next : S →
 
   fars : (n : ℕ) (s : S) → Inv n s → (at : ℕ) (bs : List A) (zs p ys r : List ℕ) → J n s bs zs → zs ≡ p ++ ys
       → at + length p ≤ (reads n s at (p ++ r)).place
+  fars n s i at [] zs p ys r j d = elim j [ ]
   fars n s i at (a ∷ []) zs p ys r (one l) d = first_far n s i at a p ys r (subst (λ (x : List ℕ). L s a x) d l)
   fars (suc n) s i at (a ∷ bs) zs p ys r (more us vs l j e) d =
       ⊎_elim

@@ -6,14 +6,14 @@ ghost use Rattle.ticks.specs.Ticks.{tick_is_in, next_tick};
 use rule::rrule::Frequency;
 
 // A tick that passes, and how many periods on it is.
-#[derive(Drop)]
+#[derive(Clone, Copy)]
 pub struct Hit {
     pub periods: u64,
     pub tick: u64,
 }
 
 // The first tick that passes; or none does, however far the calendar runs.
-#[derive(Drop)]
+#[derive(Clone, Copy)]
 pub enum Found {
     At(Hit),
     Never,

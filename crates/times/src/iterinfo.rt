@@ -7,7 +7,7 @@ use basics::rrule::frequency_number;
 use rule::rrule::Frequency;
 
 // How many hours, minutes and seconds there are to choose from.
-#[derive(Drop)]
+#[derive(Clone, Copy)]
 pub struct Counts {
     pub hours: u8,
     pub minutes: u8,

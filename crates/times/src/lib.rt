@@ -1,2 +1,4 @@
 // The times of a period, by number.
+#![tactic(auto)]
+
 pub mod iterinfo;

@@ -7,7 +7,7 @@ use rule::rrule::{Count, Frequency, Until};
 use times::iterinfo::{Counts, quotient, time_at};
 
 // Why a walk has stopped; Through where no candidate remains.
-#[derive(Drop)]
+#[derive(Clone, Copy)]
 pub enum Why {
     Full,
     Until,
@@ -16,7 +16,7 @@ pub enum Why {
 }
 
 // What a call holds between two turns: the cursor, the moves made and the count handed out in this call.
-#[derive(Drop)]
+#[derive(Clone, Copy)]
 pub struct Held {
     pub cursor: Cursor,
     pub moves: u32,
@@ -24,14 +24,14 @@ pub struct Held {
 }
 
 // What a walk comes to: why it has stopped, and what the call then holds.
-#[derive(Drop)]
+#[derive(Clone, Copy)]
 pub struct Walked {
     pub why: Why,
     pub held: Held,
 }
 
 // The start and UNTIL, as seconds since 0001-01-01, and COUNT.
-#[derive(Drop)]
+#[derive(Clone, Copy)]
 pub struct Bounds {
     pub start: u64,
     pub until: Until,
@@ -39,7 +39,7 @@ pub struct Bounds {
 }
 
 // A period's candidates: their days are places of the year that begins on the day first, their times are told by number.
-#[derive(Drop)]
+#[derive(Clone, Copy)]
 pub struct Frame {
     pub freq: Frequency,
     pub begins: u32,

@@ -7,7 +7,7 @@ ghost use Rattle.weeks.specs.Weeks.{year_info, has_mask, week_mask, weeks_around
 use calendar::utils;
 
 // A year: its number, whether it and the next are leap years, and its first day.
-#[derive(Drop)]
+#[derive(Clone, Copy)]
 pub struct Year {
     pub number: u32,
     pub long: bool,
@@ -37,7 +37,7 @@ pub fn year_info(number: u32) -> Year
 
 // The weeks that reach into a year's mask, from last year's last week on: how many days of them lie before the year, and how many weeks last
 // year, the year and the next have.
-#[derive(Drop)]
+#[derive(Clone, Copy)]
 struct Weeks {
     skipped: usize,
     last: usize,

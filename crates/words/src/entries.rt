@@ -3,7 +3,7 @@ use crate::text::Number;
 use crate::{rows, text, words};
 
 // What is held of an entry, and whether the entry can be taken.
-#[derive(Drop)]
+#[derive(Clone, Copy)]
 pub struct Entry {
     pub taken: bool,
     pub held: usize,
@@ -63,7 +63,7 @@ fn state_in(text: &[u8]) -> Entry {
 }
 
 // How many values a key takes below 0, whether 0, and how many above.
-#[derive(Drop)]
+#[derive(Clone, Copy)]
 struct Range {
     negatives: usize,
     zeroin: bool,

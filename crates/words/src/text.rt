@@ -2,7 +2,7 @@
 ghost use Rattle.std.specs.Prelude.{◌≡◌, ◌≤◌, length};
 
 // What a text says as a number: whether it is one, its sign, and its size.
-#[derive(Drop)]
+#[derive(Clone, Copy)]
 pub struct Number {
     pub read: bool,
     pub negative: bool,

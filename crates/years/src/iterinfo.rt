@@ -12,7 +12,7 @@ use weeks::yearinfo::{Year, week_no_mask, year_info};
 
 // A year with its tables (the month of each place, its day of the month, and that from the month's end) and its masks. Each is blank
 // where the rule has no use for it.
-#[derive(Drop)]
+#[derive(Clone, Copy)]
 pub struct IterInfo {
     pub year: Year,
     pub months: [u8; 373],

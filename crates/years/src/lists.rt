@@ -7,7 +7,7 @@ use basics::lists::is_empty;
 use rule::rrule::Rule;
 
 // Which day lists a rule has, and whether BYDAY has entries with n not 0.
-#[derive(Drop)]
+#[derive(Clone, Copy)]
 pub struct Asked {
     pub month: bool,
     pub monthday: bool,

@@ -4,10 +4,8 @@ use Prim.Native.Nat.{ℕ, ◌+◌, ◌-◌, ◌*◌, ◌/◌, ◌%◌}
 use mathlib.Core.Path.{◌≡◌}
 use native.Mathlib.Omega.{arith}
 use native.Mathlib.Nat.{div-div-eq-div-mul}
-use borrow.Author.Rules.{rules}
 use Rattle.calendar.specs.Calendar.{new_year}
-use Rattle.calendar.proofs.utils.weekday_of_new_year.Statement.{statement}
-use Rattle.calendar.proofs.utils.weekday_of_new_year.Tie as tie
+use Rattle.calendar.proofs.utils.weekday_of_new_year.Goals as goal
 
 -- the fourth years among z, by its whole hundreds and its last years
 fourth-years : (z : ℕ) → z / 4 ≡ 25 * (z / 100) + z % 100 / 4
@@ -23,24 +21,6 @@ days-over z a b d e =
     rw (fourth-years z, ← div-div-eq-div-mul z 100 4)
     (over-weeks z (z / 100) (z / 100 / 4) (z % 100) (z % 100 / 4) a b (omega arith) d e)
 
-one-less-requires : tie.Need-one-less-requires
-one-less-requires c κs = search rules
-
-mul-result : tie.Need-overflow-mul-result
-mul-result c = search rules
-
-mul-result-2 : tie.Need-overflow-mul-result-2
-mul-result-2 c = search rules
-
-add-result : tie.Need-overflow-add-result
-add-result c = search rules
-
-cast-result : tie.Need-overflow-cast-result
-cast-result c = search rules
-
-returns : tie.Need-returns
+pub returns : goal.returns
 unfolding new_year
-returns c = rw (← c.one_less.ensures) (days-over c.one_less.result _ _ (omega arith) (omega arith))
-
-pub weekday-of-new-year-spec : {M : Type 1} → statement M
-weekday-of-new-year-spec = tie.close (tie.spec one-less-requires mul-result mul-result-2 add-result cast-result returns)
+returns c = rw (← c.one_less-past.ensures) (days-over c.one_less-past.result _ _ (omega arith) (omega arith))
