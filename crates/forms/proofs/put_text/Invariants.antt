@@ -1,0 +1,11 @@
+-- `forms::put_text` is safe and ends.
+-- Assumes nothing.
+use Rattle.std.proofs.Common.{◌≡◌, ◌-◌, ◌≤◌, max, length, rules}
+use Rattle.forms.proofs.put_text.Given as goal
+
+abbrev pub invariant-loop-i : goal.invariant-loop-i
+invariant-loop-i l =
+    (l.i ≤ l.i-end) × (l.i-end ≤ length l.text) × (length l.out ≡ length l.initial.out) × (l.now ≤ max l.waiting (length l.initial.out))
+
+abbrev pub decreases-loop-i : goal.decreases-loop-i
+decreases-loop-i l = l.i-end - l.i

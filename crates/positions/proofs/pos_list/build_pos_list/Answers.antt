@@ -1,0 +1,27 @@
+-- `positions::pos_list::build_pos_list` meets its contract: one stretch, or the first and the last.
+-- Assumes nothing.
+use Rattle.std.proofs.Common.{rules}
+use native.Mathlib.Omega.{arith}
+use Rattle.positions.proofs.PlaceLaws.{length_within, one_written, two_written}
+use Rattle.positions.proofs.pos_list.build_pos_list.Goals as goal
+
+pub returns-then-n-le366 : goal.returns-then-n-le366
+returns-then-n-le366 c =
+    let a = c.args in
+    one_written a.bysetpos.now a.n a.places.now c.put_chosen.new.places c.put_chosen.result
+    c.put_chosen.ensures.value c.put_chosen.ensures.places_after
+
+pub put_chosen-requires-2 : goal.put_chosen-requires-2
+put_chosen-requires-2 c =
+    let a = c.args in
+    (search rules, omega (arith, length_within a.bysetpos.now a.n 0 366, c.put_chosen-count.ensures.value, c.last_stretch.ensures))
+
+pub returns : goal.returns
+returns c =
+    let first = c.put_chosen-count in
+    let start = c.last_stretch in
+    let a = c.args in
+    two_written a.bysetpos.now a.n
+    a.places.now first.new.1.1.1.1.1.0 c.put_chosen-2.new.places
+    first.result start.result c.put_chosen-2.result
+    (search rules) start.ensures first.ensures.0 first.ensures.1 c.put_chosen-2.ensures.value c.put_chosen-2.ensures.places_after

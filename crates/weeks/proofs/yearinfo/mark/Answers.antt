@@ -1,0 +1,22 @@
+-- `weeks::yearinfo::mark` meets its contract.
+-- Assumes nothing.
+use Prim.Native.Nat.{◌≤◌, ◌-◌, max}
+use native.Mathlib.Omega.{arith}
+use Rattle.weeks.specs.Weeks.{Marked}
+use Rattle.weeks.proofs.Marks.{mark_none, mark_next, mark_done}
+use Rattle.weeks.proofs.yearinfo.mark.Goals as goal
+
+pub loop-i-init : goal.loop-i-init
+loop-i-init c = (omega arith, omega arith, mark_none _ _)
+
+pub loop-i-preserved : goal.loop-i-preserved
+loop-i-preserved c =
+    let l = c.loop-i in
+    let a = c.args in
+    (omega arith, omega arith, mark_next a.from l.i a.mask.now l.mask (omega arith) (omega arith) l.invariant.2)
+
+pub returns : goal.returns
+returns c =
+    let l = c.loop-i in
+    let a = c.args in
+    mark_done a.from a.to l.i a.mask.now l.mask (omega arith) (omega arith) l.invariant.2
