@@ -9,22 +9,16 @@ use Rattle.calendar.proofs.Table.{tab_at}
 use Rattle.calendar.proofs.Months.{past_table}
 use Rattle.dates.proofs.masks.month_day_at.Goals as goal
 
-array-read-result : tie.Need-array-read-result
-array-read-result c = search rules
-
-array-read-result-2 : tie.Need-array-read-result-2
-array-read-result-2 c = search rules
-
 pub returns-then-place-lt373 : goal.returns-then-place-lt373
 unfolding table_day
-returns-then-place-lt373 c = rw c.if-long.true (tab_at (λ (n : ℕ). (table_day true n).day) 0 373 c.args.place (array-read-result c))
+returns-then-place-lt373 c = rw c.if-long.true (tab_at (λ (n : ℕ). (table_day true n).day) 0 373 c.args.place (search rules))
 
 pub returns-else-place-lt373 : goal.returns-else-place-lt373
 returns-else-place-lt373 c = rw (c.if-long.true, past_table true c.args.place (search rules))
 
 pub returns-then-place-lt372 : goal.returns-then-place-lt372
 unfolding table_day
-returns-then-place-lt372 c = rw c.if-long.false (tab_at (λ (n : ℕ). (table_day false n).day) 0 372 c.args.place (array-read-result-2 c))
+returns-then-place-lt372 c = rw c.if-long.false (tab_at (λ (n : ℕ). (table_day false n).day) 0 372 c.args.place (search rules))
 
 pub returns-else-place-lt372 : goal.returns-else-place-lt372
 returns-else-place-lt372 c = rw (c.if-long.false, past_table false c.args.place (search rules))

@@ -5,12 +5,13 @@ use native.Mathlib.Omega.{arith}
 use Rattle.calendar.proofs.Years.{year_of_is}
 use Rattle.dates.proofs.TableDates.{TableDate, table_date}
 use Rattle.dates.proofs.utils.date_from_ordinal.Goals as goal
+use Rattle.dates.proofs.utils.date_from_ordinal.Goals.{After-month_day_from_end_at}
 
 pub overflow_sub-place : goal.overflow_sub-place
 overflow_sub-place c = rw (c.days_before_year.ensures, c.year_of_day-year.ensures) (year_of_is c.args.day).from
 
 -- what is known behind the last call
-read_off : (c : goal.After-month_day_from_end_at)
+read_off : (c : After-month_day_from_end_at)
     → TableDate c.args.day c.year_of_day-year.result
     c.days_before_year.result c.month_at.result c.month_day_at-month_day.result
     c.month_day_from_end_at.result

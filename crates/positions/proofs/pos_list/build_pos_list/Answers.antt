@@ -18,10 +18,8 @@ put_chosen-requires-2 c =
 
 pub returns : goal.returns
 returns c =
-    let first = c.put_chosen-count in
-    let start = c.last_stretch in
     let a = c.args in
     two_written a.bysetpos.now a.n
-    a.places.now first.new.1.1.1.1.1.0 c.put_chosen-2.new.places
-    first.result start.result c.put_chosen-2.result
-    (search rules) start.ensures first.ensures.0 first.ensures.1 c.put_chosen-2.ensures.value c.put_chosen-2.ensures.places_after
+    a.places.now c.put_chosen-count.new.places c.put_chosen-2.new.places
+    c.put_chosen-count.result c.last_stretch.result c.put_chosen-2.result
+    (search rules) c.last_stretch.ensures c.put_chosen-count.ensures.value c.put_chosen-count.ensures.places_after c.put_chosen-2.ensures.value c.put_chosen-2.ensures.places_after

@@ -39,7 +39,4 @@ pub returns : goal.returns
 returns c =
     let l = c in
     let a = l.args in
-    let e = none_within a.bysetpos.now a.n l.loop-place.place a.to (search rules) in (
-      omega (arith, l.loop-place.invariant.1, ap length e),
-      sym (l.loop-place.invariant.2 ∙ ap (λ (xs : List ℕ). sets l.loop-place.places l.loop-place.written xs) e),
-    )
+    let e = none_within a.bysetpos.now a.n l.loop-place.place a.to (search rules) in record { value = omega (arith, l.loop-place.invariant.1, ap length e); places_after = sym (l.loop-place.invariant.2 ∙ ap (λ (xs : List ℕ). sets l.loop-place.places l.loop-place.written xs) e) }

@@ -12,15 +12,16 @@ use Rattle.ticks.specs.Ticks.{tick_is_in, tick_on, first_tick, found_by, next_ti
 use Rattle.ticks.proofs.Days.{tick_on_lem, some_ticks, ticks_fit}
 use Rattle.ticks.proofs.Searches.{passes_at, begun, hit, miss, done, next_from, next_none}
 use Rattle.ticks.proofs.counter_date.find_tick.Goals as goal
+use Rattle.ticks.proofs.counter_date.find_tick.Goals.{After-tick_after-at, After-tick_passes, At-loop-n}
 
 -- the day's length, at every turn: some ticks, and few
-perday-is : (c : goal.At-loop-n) → c.ticks_of-perday.result ≡ ticks c.args.freq
+perday-is : (c : At-loop-n) → c.ticks_of-perday.result ≡ ticks c.args.freq
 perday-is c = c.ticks_of-perday.ensures
 
-some : (c : goal.At-loop-n) → 0 < c.ticks_of-perday.result
+some : (c : At-loop-n) → 0 < c.ticks_of-perday.result
 some c = rw (perday-is c) (some_ticks c.args.freq)
 
-few : (c : goal.At-loop-n) → c.ticks_of-perday.result ≤ 86400
+few : (c : At-loop-n) → c.ticks_of-perday.result ≤ 86400
 few c = rw (perday-is c) (ticks_fit c.args.freq)
 
 pub returns-then-perday-tick : goal.returns-then-perday-tick
@@ -40,15 +41,15 @@ loop-n-init c =
     (omega arith, sym (mod-eq_of_lt h) ∙ ap (λ (x : ℕ). x % p) s, begun _ _ _ _ p)
 
 pub overflow_add-n : goal.overflow_add-n
-overflow_add-n c = omega (arith, few c.before)
+overflow_add-n c = omega (arith, few (goal.at.overflow_add-n c).At-loop-n)
 
 pub tick_after-at-requires : goal.tick_after-at-requires
 tick_after-at-requires c =
     let l = c in
-    (rw l.loop-n.invariant.1 (mod-lt _ (some l.before)), rw l.hop_of-hop.ensures (mod-lt _ (some l.before)), few l.before)
+    (rw l.loop-n.invariant.1 (mod-lt _ (some (goal.at.tick_after-at-requires c).At-loop-n)), rw l.hop_of-hop.ensures (mod-lt _ (some (goal.at.tick_after-at-requires c).At-loop-n)), few (goal.at.tick_after-at-requires c).At-loop-n)
 
 -- after the step the tick is that of one period more
-stepped : (c : goal.After-tick_after-at)
+stepped : (c : After-tick_after-at)
     → let l = c in
     let a = l.args in
     c.tick_after-at.result ≡ tick_on l.ticks_of-perday.result a.interval a.tick (l.loop-n.n + 1)
@@ -62,9 +63,9 @@ stepped c =
     ∙ tick_on_lem p a.interval a.tick l.loop-n.n
 
 pub tick_passes-requires : goal.tick_passes-requires
-tick_passes-requires c = let l = c in rw (stepped c, ← perday-is l.before.before) (mod-lt _ (some l.before.before))
+tick_passes-requires c = let l = c in rw (stepped c, ← perday-is (goal.at.tick_passes-requires c).At-loop-n) (mod-lt _ (some (goal.at.tick_passes-requires c).At-loop-n))
 
-tested : (c : goal.After-tick_passes)
+tested : (c : After-tick_passes)
     → let l = c in
     let a = l.args in
     passes_at a.freq a.interval a.tick a.clock.now (l.loop-n.n + 1) ≡ c.tick_passes.result
@@ -76,14 +77,14 @@ tested c =
     ∙ sym c.tick_passes.ensures
 
 -- what the whole search finds, by what is left of it
-found : (c : goal.At-loop-n) (v : Move)
-    → let a = c.before.before.before.before.args in
-    first_tick a.freq a.interval a.tick a.clock.now (c.before.before.before.ticks-of.result - c.loop.n) (c.loop.n + 1) ≡ v
-    → found_by c.before.before.before.ticks-of.result a.interval a.tick v ≡ next_tick a.freq a.interval a.tick a.clock.now
+found : (c : At-loop-n) (v : Move)
+    → let a = c.args in
+    first_tick a.freq a.interval a.tick a.clock.now (c.ticks_of-perday.result - c.loop-n.n) (c.loop-n.n + 1) ≡ v
+    → found_by c.ticks_of-perday.result a.interval a.tick v ≡ next_tick a.freq a.interval a.tick a.clock.now
 found c v e =
-    let a = c.before.before.before.before.args in
-    let p : ℕ = c.before.before.before.ticks-of.result in
-    ap (found_by p a.interval a.tick) (sym (c.loop.invariant.2 ∙ e))
+    let a = c.args in
+    let p : ℕ = c.ticks_of-perday.result in
+    ap (found_by p a.interval a.tick) (sym (c.loop-n.invariant.2 ∙ e))
     ∙ ap (λ (x : ℕ). found_by x a.interval a.tick (first_tick a.freq a.interval a.tick a.clock.now x 1)) (perday-is c)
     ∙ next_from a.freq a.interval a.tick a.clock.now (rw (← perday-is c) (omega arith))
 
@@ -91,13 +92,13 @@ pub returns-then-tick_passes : goal.returns-then-tick_passes
 returns-then-tick_passes c =
     let l = c in
     let n : ℕ = l.loop-n.n + 1 in
-    ap (λ (t : ℕ). Found.At record { periods = n; tick = t }) (stepped c.before.before)
-    ∙ found l (To n) (hit _ _ _ _ _ _ (omega arith) (tested c.before ∙ c.if-tick_passes.true))
+    ap (λ (t : ℕ). Found.At record { periods = n; tick = t }) (stepped (goal.at.returns-then-tick_passes c).After-tick_after-at)
+    ∙ found (goal.at.returns-then-tick_passes c).At-loop-n (To n) (hit _ _ _ _ _ _ (omega arith) (tested (goal.at.returns-then-tick_passes c).After-tick_passes ∙ c.if-tick_passes.true))
 
 pub loop-n-preserved : goal.loop-n-preserved
 loop-n-preserved c =
     let l = c in
-    (omega arith, stepped c.before.before, l.loop-n.invariant.2 ∙ miss _ _ _ _ _ _ (omega arith) (tested c.before ∙ c.if-tick_passes.false))
+    (omega arith, stepped (goal.at.loop-n-preserved c).After-tick_after-at, l.loop-n.invariant.2 ∙ miss _ _ _ _ _ _ (omega arith) (tested (goal.at.loop-n-preserved c).After-tick_passes ∙ c.if-tick_passes.false))
 
 pub returns : goal.returns
-returns c = found c.before NoTick (done _ _ _ _ _ _ (omega arith))
+returns c = found (goal.at.returns c).At-loop-n NoTick (done _ _ _ _ _ _ (omega arith))

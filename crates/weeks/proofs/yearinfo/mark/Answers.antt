@@ -11,12 +11,10 @@ loop-i-init c = (omega arith, omega arith, mark_none _ _)
 
 pub loop-i-preserved : goal.loop-i-preserved
 loop-i-preserved c =
-    let l = c.loop-i in
     let a = c.args in
-    (omega arith, omega arith, mark_next a.from l.i a.mask.now l.mask (omega arith) (omega arith) l.invariant.2)
+    (omega arith, omega arith, mark_next a.from c.loop-i.i a.mask.now c.loop-i.mask (omega arith) (omega arith) c.loop-i.invariant.2)
 
 pub returns : goal.returns
 returns c =
-    let l = c.loop-i in
     let a = c.args in
-    mark_done a.from a.to l.i a.mask.now l.mask (omega arith) (omega arith) l.invariant.2
+    mark_done a.from a.to c.loop-i.i a.mask.now c.loop-i.mask (omega arith) (omega arith) c.loop-i.invariant.2

@@ -9,6 +9,7 @@ use Rattle.weeks.specs.Weeks.{has_mask}
 use Rattle.weeks.proofs.Numbers.{longest, counted}
 use Rattle.weeks.proofs.Masks.{Asked, asked, no_mask_lem, Upto, none_done, skip_week, mark_week, all_done}
 use Rattle.weeks.proofs.yearinfo.week_no_mask.Goals as goal
+use Rattle.weeks.proofs.yearinfo.week_no_mask.Goals.{Else-not-has_mask}
 
 pub returns-then-not-has_mask : goal.returns-then-not-has_mask
 returns-then-not-has_mask c =
@@ -16,7 +17,7 @@ returns-then-not-has_mask c =
     no_mask_lem a.wkst a.weeknos.now a.year (sym c.has_mask.ensures ∙ not-true _ c.if-not-has_mask.true-raw)
 
 -- behind the first test there is a mask
-has : (c : goal.Else-not-has_mask) → has_mask c.args.wkst c.args.year ≡ true
+has : (c : Else-not-has_mask) → has_mask c.args.wkst c.args.year ≡ true
 has c = sym c.has_mask.ensures ∙ not-false _ c.if-not-has_mask.false-raw
 
 pub weeks_around-weeks-requires : goal.weeks_around-weeks-requires
@@ -34,7 +35,7 @@ pub week_passes-requires : goal.week_passes-requires
 week_passes-requires c =
     let b = c in
     let a = b.args in
-    let h : Asked a.wkst a.year = asked a.wkst a.year (has b.before.before.before.before) in
+    let h : Asked a.wkst a.year = asked a.wkst a.year (has (goal.at.week_passes-requires c).Else-not-has_mask) in
     (rw b.weeks_around-weeks.ensures (counted a.wkst a.year h.start h.low), omega arith)
 
 pub loop-week-preserved-then-not-week_passes : goal.loop-week-preserved-then-not-week_passes
@@ -43,7 +44,7 @@ loop-week-preserved-then-not-week_passes c =
     let b = l in
     let a = b.args in (
       omega arith,
-      skip_week a.wkst a.weeknos.now a.year b.weeks_around-weeks.result b.weeks_around-weeks.ensures (has b.before.before.before.before.before.before) l.loop-week.week l.loop-week.mask
+      skip_week a.wkst a.weeknos.now a.year b.weeks_around-weeks.result b.weeks_around-weeks.ensures (has (goal.at.loop-week-preserved-then-not-week_passes c).Else-not-has_mask) l.loop-week.week l.loop-week.mask
           (sym c.week_passes.ensures ∙ not-true _ c.if-not-week_passes.true-raw) l.loop-week.invariant.1,
     )
 
@@ -59,7 +60,7 @@ loop-week-preserved c =
     let b = l in
     let a = b.args in (
       omega arith,
-      mark_week a.wkst a.weeknos.now a.year b.weeks_around-weeks.result b.weeks_around-weeks.ensures (has b.before.before.before.before.before.before.before.before.before.before.before) l.loop-week.week _ _
+      mark_week a.wkst a.weeknos.now a.year b.weeks_around-weeks.result b.weeks_around-weeks.ensures (has (goal.at.loop-week-preserved c).Else-not-has_mask) l.loop-week.week _ _
           l.loop-week.mask _ (sym e.week_passes.ensures ∙ not-false _ e.if-not-week_passes.false-raw) l.loop-week.invariant.1 c.less-from.ensures
           (omega arith)
           c.mark.ensures,
@@ -69,5 +70,5 @@ pub returns : goal.returns
 returns c =
     let b = c in
     let a = b.args in
-    all_done a.wkst a.weeknos.now a.year b.weeks_around-weeks.result b.weeks_around-weeks.ensures (has b.before.before.before.before) c.loop-week.week
+    all_done a.wkst a.weeknos.now a.year b.weeks_around-weeks.result b.weeks_around-weeks.ensures (has (goal.at.returns c).Else-not-has_mask) c.loop-week.week
     c.loop-week.mask (omega arith) c.loop-week.invariant.1
