@@ -8,8 +8,8 @@ use Rattle.positions.proofs.pos_list.build_pos_list.Goals as goal
 pub returns-then-n-le366 : goal.returns-then-n-le366
 returns-then-n-le366 c =
     let a = c.args in
-    one_written a.bysetpos.now a.n a.places.now c.put_chosen.new.places c.put_chosen.result
-    c.put_chosen.ensures.value c.put_chosen.ensures.places_after
+    let w = one_written a.bysetpos.now a.n a.places.now c.put_chosen.new.places c.put_chosen.result
+    c.put_chosen.ensures.value c.put_chosen.ensures.places_after in record { value = w.0; places_after = w.1 }
 
 pub put_chosen-requires-2 : goal.put_chosen-requires-2
 put_chosen-requires-2 c =
@@ -19,7 +19,7 @@ put_chosen-requires-2 c =
 pub returns : goal.returns
 returns c =
     let a = c.args in
-    two_written a.bysetpos.now a.n
+    let w = two_written a.bysetpos.now a.n
     a.places.now c.put_chosen-count.new.places c.put_chosen-2.new.places
     c.put_chosen-count.result c.last_stretch.result c.put_chosen-2.result
-    (search rules) c.last_stretch.ensures c.put_chosen-count.ensures.value c.put_chosen-count.ensures.places_after c.put_chosen-2.ensures.value c.put_chosen-2.ensures.places_after
+    (search rules) c.last_stretch.ensures c.put_chosen-count.ensures.value c.put_chosen-count.ensures.places_after c.put_chosen-2.ensures.value c.put_chosen-2.ensures.places_after in record { value = w.0; places_after = w.1 }

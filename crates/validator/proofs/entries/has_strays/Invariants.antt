@@ -1,0 +1,17 @@
+-- `validator::entries::has_strays` meets its contract: what is asked of the whole list is asked of what is left of it.
+-- Assumes nothing.
+use Rattle.std.proofs.Common.{rules}
+use mathlib.Core.Path.{◌≡◌, refl, sym, ◌∙◌, ap}
+use mathlib.Core.Bool.{Bool, not}
+use Prim.Native.Nat.{◌≤◌, ◌-◌}
+use lib.ListN.{length, drop}
+use borrow.Author.Tests.{eq-eqb, ne_eqb}
+use Rattle.rule.specs.Refusals.{some, is_outside, stray_in, strays}
+use Rattle.rule.proofs.EntryLaws.{slot_moved, some_here, some_later, some_none}
+use Rattle.validator.proofs.entries.has_strays.Given as goal
+
+abbrev pub invariant-loop-i : goal.invariant-loop-i
+invariant-loop-i l = (l.i ≤ length l.list) × (some (stray_in l.range) l.list ≡ some (stray_in l.range) (drop l.i l.list))
+
+abbrev pub decreases-loop-i : goal.decreases-loop-i
+decreases-loop-i l = length l.list - l.i

@@ -1,0 +1,45 @@
+-- `validator::entries::pair_slot` meets its contract.
+-- Assumes nothing.
+use mathlib.Core.Path.{◌≡◌, sym, ap, ◌∙◌}
+use native.Mathlib.Omega.{arith}
+use Rattle.rule.specs.declared.rrule.Slot.{Slot}
+use Rattle.rule.specs.Lists.{nths, weekdays, beside}
+use Rattle.rule.specs.Entries.{slot_at, pair_at}
+use Rattle.rule.proofs.EntryLaws.{slot_high}
+use Rattle.validator.proofs.entries.pair_slot.Goals as goal
+use Rattle.validator.proofs.entries.pair_slot.Goals.{In-At-slot_of}
+
+pub returns-in_default : goal.returns-in_default
+unfolding pair_at
+returns-in_default c =
+    let a = c.args in
+    sym (ap (λ (s : Slot). beside s (slot_at weekdays a.w)) (sym c.slot_of.ensures ∙ c.in_default.is))
+
+pub returns-in_default-slot_of : goal.returns-in_default-slot_of
+unfolding pair_at
+returns-in_default-slot_of c =
+    let o = c in
+    sym
+    (ap (λ (s : Slot). beside s (slot_at weekdays o.args.w)) (sym o.slot_of.ensures ∙ c.in-At.is)
+    ∙ ap (beside (Slot.At _)) (sym c.slot_of-2.ensures ∙ c.in_default-slot_of.is))
+
+-- the slots of n and of the weekday
+first : (c : In-At-slot_of) → slot_at nths c.args.n ≡ Slot.At c.in-At.a
+first c = sym c.slot_of.ensures ∙ c.in-At.is
+
+second : (c : In-At-slot_of) → slot_at weekdays c.args.w ≡ Slot.At c.in-At-slot_of.b
+second c = sym c.slot_of-2.ensures ∙ c.in-At-slot_of.is
+
+pub overflow_mul-result : goal.overflow_mul-result
+overflow_mul-result c = omega (arith, slot_high nths _ _ (omega arith) (omega arith) (first c))
+
+pub overflow_add-result : goal.overflow_add-result
+overflow_add-result c = omega (arith, slot_high nths _ _ (omega arith) (omega arith) (first c), slot_high weekdays _ _ (omega arith) (omega arith) (second c))
+
+pub returns : goal.returns
+unfolding pair_at
+returns c =
+    let o = c in
+    sym
+    (ap (λ (s : Slot). beside s (slot_at weekdays o.args.w)) (first c)
+    ∙ ap (beside (Slot.At _)) (second c))
