@@ -1,0 +1,15 @@
+-- `nths::monthinfo::has_entry` meets its contract.
+-- Assumes nothing.
+use Prim.Native.Nat.{◌-◌, ◌≤◌}
+use mathlib.Core.Path.{◌≡◌}
+use mathlib.Core.Bool.{false}
+use native.Mathlib.Omega.{arith}
+use Rattle.nths.specs.Marks.{NoEntry}
+use Rattle.nths.proofs.MarkLaws.{no_rows, one_row_more, all_rows}
+use Rattle.nths.proofs.monthinfo.has_entry.Given as goal
+
+abbrev pub invariant-loop-row : goal.invariant-loop-row
+invariant-loop-row l = (l.from ≤ l.row) × (l.row ≤ l.to) × (l.some ≡ false → NoEntry l.byday l.weekday l.from l.row)
+
+abbrev pub decreases-loop-row : goal.decreases-loop-row
+decreases-loop-row l = l.to - l.row

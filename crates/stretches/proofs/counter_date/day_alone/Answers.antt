@@ -1,0 +1,16 @@
+-- `stretches::counter_date::day_alone` meets its contract.
+-- Assumes nothing.
+use Rattle.rule.specs.declared.rrule.Frequency.{Frequency}
+use native.Mathlib.Omega.{arith}
+use Rattle.periods.specs.Counters.{limit_of}
+use Rattle.stretches.specs.Stretches.{days_at}
+use Rattle.stretches.proofs.Spanned.{days_below, days_past}
+use Rattle.stretches.proofs.counter_date.day_alone.Goals as goal
+
+pub returns-then-number-ge-RANGE_END : goal.returns-then-number-ge-RANGE_END
+unfolding limit_of
+returns-then-number-ge-RANGE_END c = days_past Frequency.Daily c.args.number (omega arith)
+
+pub returns : goal.returns
+unfolding days_at limit_of
+returns c = days_below Frequency.Daily c.args.number (omega arith)
