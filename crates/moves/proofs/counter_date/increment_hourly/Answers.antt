@@ -29,7 +29,9 @@ set_off-from-requires c = tick_fits _ _ _ (stood c) 24 refl
 
 pub next_tick-requires : goal.next_tick-requires
 unfolding limit_of
-next_tick-requires c = search_fits _ _ _ (stood (goal.at.next_tick-requires c).Else-not-can_move) 24 _ _ refl refl (omega arith) c.set_off-from.ensures
+next_tick-requires c =
+    let w = search_fits _ _ _ (stood (goal.at.next_tick-requires c).Else-not-can_move) 24 _ _ refl refl (omega arith) c.set_off-from.ensures in
+    record { perday_value = w.0; k_bound = w.1 }
 
 pub returns : goal.returns
 unfolding step_of

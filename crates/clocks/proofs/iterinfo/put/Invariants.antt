@@ -1,0 +1,17 @@
+-- `clocks::iterinfo::put` meets its contract: the row holds so much of the set as was passed.
+-- Assumes nothing.
+use Rattle.std.proofs.Common.{rules}
+use Prim.Native.Nat.{◌-◌, ◌+◌, ◌≤◌}
+use mathlib.Core.Path.{◌≡◌, refl, ◌∙◌, ap}
+use mathlib.Core.Bool.{Bool, false, ◌||◌}
+use lib.ListN.{length, get_or, set, take, length-set}
+use Rattle.clocks.specs.Clocks.{written, or_all}
+use Rattle.clocks.proofs.Rows.{put_none, put_next, put_all}
+use Rattle.clocks.proofs.iterinfo.put.Given as goal
+
+abbrev pub invariant-loop-i : goal.invariant-loop-i
+invariant-loop-i l =
+    (l.i ≤ length l.set) × (length l.flags ≡ length l.initial.flags) × (l.flags ≡ written l.initial.flags l.from (take l.i (or_all (length l.set) l.set)))
+
+abbrev pub decreases-loop-i : goal.decreases-loop-i
+decreases-loop-i l = length l.set - l.i
