@@ -1,0 +1,64 @@
+-- `days::filters::is_filtered` meets its contract.
+-- Assumes nothing.
+use Prim.Native.Nat.{◌+◌, ◌<◌}
+use native.Mathlib.Omega.{arith}
+use borrow.Author.Tests.{lt-ltb, le-ltb}
+use Rattle.calendar.specs.Calendar.{days_of}
+use Rattle.nths.proofs.Rows.{days_high}
+use Rattle.days.proofs.FilterLaws.{past_fails, some_filters}
+use Rattle.years.specs.declared.iterinfo.IterInfo.{IterInfo}
+use Rattle.years.specs.Info.{info_by}
+use Rattle.days.specs.Filters.{DayLists, day_lists}
+use Rattle.days.proofs.filters.is_filtered.Goals as goal
+use Rattle.days.proofs.filters.is_filtered.Goals.{Else-days_of-place, Start}
+
+-- the year and the lists that were given
+abbrev info : Start → IterInfo
+info s = let a = s.args in info_by a.year a.months.now a.monthdays.now a.fromends.now a.weeks.now a.nths.now
+
+abbrev lists : Start → DayLists
+lists s = let a = s.args in day_lists a.bymonth.now a.bymonthday.now a.byyearday.now a.byday.now
+
+pub overflow_add-days_of : goal.overflow_add-days_of
+overflow_add-days_of c = omega (arith, c.days_of.ensures, days_high c.args.year.long)
+
+pub returns-then-days_of-place : goal.returns-then-days_of-place
+returns-then-days_of-place c =
+    let s = c in
+    past_fails s.args.asked (info (goal.at.returns-then-days_of-place c).Start) (lists (goal.at.returns-then-days_of-place c).Start) s.args.place
+    (le-ltb s.args.place (days_of s.args.year.long + 7) (omega (arith, c.days_of.ensures, c.if-days_of-place.true)))
+
+-- the place lies in the tables, and in the masks
+in_place : (c : Else-days_of-place) → c.args.place < days_of c.args.year.long + 7
+in_place c = omega (arith, c.days_of.ensures, c.if-days_of-place.false)
+
+in-mask : (c : Else-days_of-place) → c.args.place < 373
+in-mask c = omega (arith, in_place c, days_high c.args.year.long)
+
+pub is_filtered_by_month-requires : goal.is_filtered_by_month-requires
+is_filtered_by_month-requires c = in-mask c
+
+pub is_filtered_by_month_day-requires : goal.is_filtered_by_month_day-requires
+is_filtered_by_month_day-requires c = in-mask (goal.at.is_filtered_by_month_day-requires c).Else-days_of-place
+
+pub is_filtered_by_year_day-requires : goal.is_filtered_by_year_day-requires
+is_filtered_by_year_day-requires c = in_place (goal.at.is_filtered_by_year_day-requires c).Else-days_of-place
+
+pub is_filtered_by_week_number-requires : goal.is_filtered_by_week_number-requires
+is_filtered_by_week_number-requires c = in-mask (goal.at.is_filtered_by_week_number-requires c).Else-days_of-place
+
+pub is_filtered_by_weekday-requires : goal.is_filtered_by_weekday-requires
+is_filtered_by_weekday-requires c = in-mask (goal.at.is_filtered_by_weekday-requires c).Else-days_of-place
+
+pub returns : goal.returns
+returns c =
+    let e = c in
+    let s = e in
+    rw (
+      c.is_filtered_by_weekday.ensures,
+      c.is_filtered_by_week_number.ensures,
+      c.is_filtered_by_year_day.ensures,
+      c.is_filtered_by_month_day.ensures,
+      c.is_filtered_by_month.ensures,
+    )
+    (some_filters s.args.asked (info (goal.at.returns c).Start) (lists (goal.at.returns c).Start) s.args.place (lt-ltb s.args.place (days_of s.args.year.long + 7) (in_place (goal.at.returns c).Else-days_of-place)))

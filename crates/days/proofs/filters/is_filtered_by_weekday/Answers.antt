@@ -1,0 +1,13 @@
+-- `days::filters::is_filtered_by_weekday` meets its contract.
+-- Assumes nothing.
+use mathlib.Core.Path.{◌∙◌}
+use borrow.Author.Tests.{not-false}
+use Rattle.days.proofs.FilterLaws.{weekday_read}
+use Rattle.days.proofs.filters.is_filtered_by_weekday.Goals as goal
+
+pub returns : goal.returns
+returns c =
+    let a = c.args in
+    c.is_filtered_on.ensures
+    ∙ weekday_read a.asked a.nth a.first a.byday.now a.nths.now a.place c.weekday_at.result
+    (not-false _ c.if-not-asked.false-raw) c.weekday_at.ensures

@@ -1,0 +1,24 @@
+-- `days::iterinfo::first_marked` meets its contract.
+-- Assumes nothing.
+use Prim.Native.Nat.{◌-◌}
+use native.Mathlib.Omega.{arith}
+use Rattle.days.proofs.Blanks.{Searched, search_begins, search_one, search_finds, search_ends}
+use Rattle.days.proofs.iterinfo.first_marked.Goals as goal
+
+pub loop-at-init : goal.loop-at-init
+loop-at-init c = let a = c.args in search_begins a.marks.now a.from a.to c.requires.0
+
+pub returns-then-marks-at : goal.returns-then-marks-at
+returns-then-marks-at c =
+    let a = c.args in
+    search_finds a.marks.now a.from a.to c.loop-at.at c.loop-at.invariant c.if-marks-at.true
+
+pub loop-at-preserved : goal.loop-at-preserved
+loop-at-preserved c =
+    let a = c.args in
+    search_one a.marks.now a.from a.to c.loop-at.at c.loop-at.invariant c.loop-at-test.true c.if-marks-at.false
+
+pub returns : goal.returns
+returns c =
+    let a = c.args in
+    search_ends a.marks.now a.from a.to c.loop-at.at c.loop-at.invariant (omega (arith, c.loop-at-test.false))

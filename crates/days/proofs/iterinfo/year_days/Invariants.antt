@@ -1,0 +1,18 @@
+-- `days::iterinfo::year_days` meets its contract.
+-- Assumes nothing.
+use Prim.Native.Nat.{ℕ, ◌-◌}
+use mathlib.Core.Bool.{Bool}
+use mathlib.Core.List.{List}
+use mathlib.Core.Path.{refl}
+use Rattle.plain.proofs.Filling.{Filling, fill_begins, fill_ends}
+use Rattle.days.specs.Filters.{yearday_at}
+use Rattle.days.specs.DaySets.{year_days}
+use Rattle.days.proofs.Keeping.{fill_keeps}
+use Rattle.days.proofs.iterinfo.year_days.Given as goal
+
+abbrev pub invariant-loop-place : goal.invariant-loop-place
+invariant-loop-place l =
+    Filling (yearday_at l.long l.nextlong l.byyearday) l.end (year_days l.long l.nextlong l.byyearday l.from l.end) l.initial.days l.days l.found l.place
+
+abbrev pub decreases-loop-place : goal.decreases-loop-place
+decreases-loop-place l = l.end - l.place
