@@ -1,0 +1,206 @@
+-- `chosen::rrule_iter::walk_places` meets its contract. The loop's invariant: what is left of the walk gives what the whole gives.
+-- Assumes nothing.
+use Rattle.std.proofs.Common.{rules}
+use Prim.Native.Nat.{ℕ, ◌+◌, ◌*◌, ◌-◌, ◌≤◌, ◌<◌, ◌^◌}
+use mathlib.Core.Path.{◌≡◌, refl, sym, ap, ◌∙◌}
+use mathlib.Core.Bool.{true, false}
+use mathlib.Core.List.{List}
+use lib.ListN.{length, length-set}
+use lib.Dec.{leb}
+use native.Mathlib.Omega.{arith}
+use borrow.Author.Tests.{leb-true, not-true, not-false}
+use Rattle.machine.specs.Given.{above}
+use Rattle.rule.proofs.FillLaws.{both}
+use Rattle.walks.specs.declared.rrule_iter.Why.{Why}
+use Rattle.walks.specs.Walks.{bound_of, is_framed, second_chosen, walk_from}
+use Rattle.walks.proofs.SecondLaws.{second_chosen_lem}
+use Rattle.walks.proofs.WalkLaws.{stops, rest_over, rest_pass}
+use Rattle.walks.proofs.Walkable.{year_kept}
+use Rattle.passing.specs.Passing.{Ready}
+use Rattle.crossing.specs.Crossing.{is_walkable}
+use Rattle.crossing.proofs.RestLaws.{rest_full, rest_until, rest_count, rest_hand}
+use Rattle.crossing.proofs.Walkable.{walkable_by, walkable_told}
+use Rattle.chosen.specs.Chosen.{places_walk}
+use Rattle.chosen.proofs.Walkable.{places_walked, places_left}
+use Rattle.chosen.proofs.rrule_iter.walk_places.Goals as goal
+use Rattle.chosen.proofs.rrule_iter.walk_places.Goals.{After-second_at-second, At-loop-i, Else-is_late, Else-not-kept-is_framed, Else-slot-buffer}
+
+-- behind the guard a walk may be, and no more places are told than there are
+few : (c : Else-not-kept-is_framed) → c.args.kept ≤ 732
+few c = leb-true _ _ (both (leb c.args.kept 732) _ (not-false _ c.if-not-kept-is_framed.false-raw)).0
+
+walkable : (c : Else-not-kept-is_framed) →
+    let a = c.args in
+    is_walkable a.frame a.bounds a.held a.buffer.now ≡ true
+walkable c =
+    let a = c.args in
+    walkable_by a.frame a.bounds a.held a.buffer.now _ _ true c.is_framed.ensures c.is_ready.ensures
+    (both (leb a.kept 732) _ (not-false _ c.if-not-kept-is_framed.false-raw)).1
+
+framed : (c : After-second_at-second) → is_framed c.args.frame ≡ true
+framed c =
+    let a = c.args in
+    (both (is_framed a.frame) _
+    (walkable_by a.frame a.bounds a.held a.buffer.now _ _ true c.is_framed.ensures c.is_ready.ensures
+    (both (leb a.kept 732) _ (not-false _ c.if-not-kept-is_framed.false-raw)).1)).0
+
+ready : (c : Else-not-kept-is_framed) →
+    let a = c.args in
+    Ready a.bounds a.held a.buffer.now
+ready c = (walkable_told _ _ _ _ (walkable c)).1
+
+-- the same at a turn of the loop
+few-kept : (c : At-loop-i) → c.args.kept ≤ 732
+few-kept c = leb-true _ _ (both (leb c.args.kept 732) _ (not-false _ c.if-not-kept-is_framed.false-raw)).0
+
+still-walkable : (c : At-loop-i) →
+    let a = c.args in
+    is_walkable a.frame a.bounds a.held a.buffer.now ≡ true
+still-walkable c =
+    let a = c.args in
+    walkable_by a.frame a.bounds a.held a.buffer.now _ _ true c.is_framed.ensures c.is_ready.ensures
+    (both (leb a.kept 732) _ (not-false _ c.if-not-kept-is_framed.false-raw)).1
+
+-- the whole walk is what is left of it at a turn of the loop
+whole : (c : At-loop-i) →
+    let a = c.args in
+    places_walk a.frame a.bounds a.held a.kept a.places.now a.days.now a.lists.now a.buffer.now
+    ≡ walk_from a.bounds (second_chosen a.frame a.days.now a.lists.now a.places.now) a.kept c.loop-i.at c.loop-i.buffer
+whole c = places_walked _ _ _ _ _ _ _ _ (few-kept c) (still-walkable c) ∙ c.loop-i.invariant.6
+
+-- a slot is free
+free : (c : Else-slot-buffer) →
+    let l = c in
+    l.loop-i.at.handed ≡ length l.loop-i.buffer → ⊥
+free c e = omega (arith, e, c.if-slot-buffer.false)
+
+-- the candidate in hand, as the second that the code has
+in-hand : (c : After-second_at-second) →
+    let l = c in
+    let a = l.args in
+    c.second_at-second.result ≡ second_chosen a.frame a.days.now a.lists.now a.places.now l.loop-i.at.cursor.place
+in-hand c =
+    let l = c in
+    let a = l.args in
+    second_chosen_lem _ _ _ _ _ l.loop-i.i _ l.loop-i.invariant.1
+    (c.second_at-second.ensures ∙ year_kept a.frame a.days.now a.lists.now _ (framed c))
+
+-- it is not above UNTIL
+on-time : (c : Else-is_late) →
+    let k = c in
+    above (bound_of k.args.bounds.until) k.second_at-second.result ≡ false
+on-time c = sym c.is_late.ensures ∙ c.if-is_late.false
+
+-- the buffer is short enough that neither count can wrap
+room : (c : At-loop-i) → length c.loop-i.buffer * 8 < 2 ^ 63
+room c = rw c.loop-i.invariant.5 c.well_formed.1.1.1.1.1.1.1.0.1
+
+number_small : (c : At-loop-i) → c.loop-i.at.cursor.number + 1 < 2 ^ 64
+number_small c =
+    let r : length c.loop-i.buffer * 8 < 2 ^ 63 = room c in
+    let p : c.args.held.cursor.number < 2 ^ 63 = (walkable_told _ _ _ _ (still-walkable c)).1.number in
+    omega (arith, c.loop-i.invariant.2, c.loop-i.invariant.3, c.loop-i.invariant.4)
+
+handed-small : (c : At-loop-i) → c.loop-i.at.handed < 2 ^ 63
+handed-small c = omega (arith, room c, c.loop-i.invariant.4)
+
+pub returns-then-not-kept-is_framed : goal.returns-then-not-kept-is_framed
+returns-then-not-kept-is_framed c =
+    let a = c.args in record {
+      walked = places_left a.frame a.bounds a.held a.buffer.now a.kept a.places.now a.days.now a.lists.now _ _
+          c.is_framed.ensures c.is_ready.ensures (not-true _ c.if-not-kept-is_framed.true-raw);
+      state = refl;
+    }
+
+pub loop-i-init : goal.loop-i-init
+loop-i-init c =
+    (refl, refl, search rules, search rules, (ready (goal.at.loop-i-init c).Else-not-kept-is_framed).handed, refl, refl, refl)
+
+pub offset_bounds-places-i : goal.offset_bounds-places-i
+offset_bounds-places-i c = omega (arith, few (goal.at.offset_bounds-places-i c).Else-not-kept-is_framed)
+
+pub bounds-places-i : goal.bounds-places-i
+bounds-places-i c = omega (arith, few (goal.at.bounds-places-i c).Else-not-kept-is_framed)
+
+pub overflow_add-place : goal.overflow_add-place
+overflow_add-place c = omega (arith, few (goal.at.overflow_add-place c).Else-not-kept-is_framed)
+
+pub loop-i-preserved-then-second-bounds : goal.loop-i-preserved-then-second-bounds
+loop-i-preserved-then-second-bounds c =
+    let k = c in
+    let e = k in
+    let l = e in (
+      l.loop-i.invariant.0,
+      omega arith,
+      omega arith,
+      omega arith,
+      omega arith,
+      omega arith,
+      l.loop-i.invariant.6
+          ∙ rest_pass _ _ _ _ _ (omega arith) _ (in-hand (goal.at.loop-i-preserved-then-second-bounds c).After-second_at-second) (free (goal.at.loop-i-preserved-then-second-bounds c).Else-slot-buffer) (on-time (goal.at.loop-i-preserved-then-second-bounds c).Else-is_late) c.if-second-bounds.true,
+      l.loop-i.invariant.7,
+    )
+
+pub overflow_sub-buffer : goal.overflow_sub-buffer
+overflow_sub-buffer c =
+    let l = c in
+    omega (arith, c.if-second-bounds.false, (ready (goal.at.overflow_sub-buffer c).Else-not-kept-is_framed).start)
+
+pub offset_bounds-buffer-slot : goal.offset_bounds-buffer-slot
+offset_bounds-buffer-slot c = omega (arith, room (goal.at.offset_bounds-buffer-slot c).At-loop-i)
+
+pub overflow_add-number : goal.overflow_add-number
+overflow_add-number c = record { fits = omega (arith, number_small (goal.at.overflow_add-number c).At-loop-i) }
+
+pub overflow_add-at : goal.overflow_add-at
+overflow_add-at c =
+    let l = c in
+    record { fits = omega (arith, handed-small (goal.at.overflow_add-at c).At-loop-i) }
+
+pub loop-i-preserved : goal.loop-i-preserved
+loop-i-preserved c =
+    let t = c in
+    let k = t in
+    let e = k in
+    let l = e in (
+      l.loop-i.invariant.0,
+      omega arith,
+      omega arith,
+      omega arith,
+      simp length-set (omega arith),
+      simp length-set (omega arith),
+      l.loop-i.invariant.6
+          ∙ rest_hand _ _ _ _ _ (omega arith) _ (in-hand (goal.at.loop-i-preserved c).After-second_at-second) (free (goal.at.loop-i-preserved c).Else-slot-buffer) (on-time (goal.at.loop-i-preserved c).Else-is_late) t.if-second-bounds.false
+          (sym c.is_reached.ensures ∙ c.if-is_reached.false),
+      l.loop-i.invariant.7,
+    )
+
+pub returns-after-loop-i : goal.returns-after-loop-i
+returns-after-loop-i c =
+    let l = c in
+    record { walked = sym (whole (goal.at.returns-after-loop-i c).At-loop-i ∙ rest_over _ _ _ _ _ (omega arith) ∙ ap (λ (w : Why). stops w l.loop-i.at l.loop-i.buffer) (sym l.loop-i.invariant.0)); state = l.loop-i.invariant.7 }
+
+pub returns-then-slot-buffer : goal.returns-then-slot-buffer
+returns-then-slot-buffer c =
+    let l = c in
+    record { walked = sym (whole (goal.at.returns-then-slot-buffer c).At-loop-i ∙ rest_full _ _ _ _ _ (omega arith) c.if-slot-buffer.true); state = l.loop-i.invariant.7 }
+
+pub returns-then-is_late : goal.returns-then-is_late
+returns-then-is_late c =
+    let k = c in
+    let e = k in
+    let l = e in
+    record { walked = sym (whole (goal.at.returns-then-is_late c).At-loop-i ∙ rest_until _ _ _ _ _ (omega arith) _ (in-hand (goal.at.returns-then-is_late c).After-second_at-second) (free (goal.at.returns-then-is_late c).Else-slot-buffer) (sym c.is_late.ensures ∙ c.if-is_late.true)); state = l.loop-i.invariant.7 }
+
+pub returns-then-is_reached : goal.returns-then-is_reached
+returns-then-is_reached c =
+    let t = c in
+    let k = t in
+    let e = k in
+    let l = e in record {
+      walked = sym
+          (whole (goal.at.returns-then-is_reached c).At-loop-i
+          ∙ rest_count _ _ _ _ _ (omega arith) _ (in-hand (goal.at.returns-then-is_reached c).After-second_at-second) (free (goal.at.returns-then-is_reached c).Else-slot-buffer) (on-time (goal.at.returns-then-is_reached c).Else-is_late) t.if-second-bounds.false
+          (sym c.is_reached.ensures ∙ c.if-is_reached.true));
+      state = l.loop-i.invariant.7;
+    }
