@@ -1,0 +1,200 @@
+-- `listing::rrule_iter::run_on` meets its contract. Each place of the loop has a name; what is known there is one record.
+-- Assumes nothing.
+use Prim.Native.Nat.{ℕ, ◌+◌, ◌-◌, ◌*◌, ◌^◌, ◌<◌}
+use mathlib.Core.Path.{◌≡◌, refl, sym, ap, ◌∙◌}
+use mathlib.Core.Bool.{Bool, true, false}
+use mathlib.Core.List.{List}
+use native.Mathlib.Omega.{arith}
+use borrow.Author.Tests.{not-true, not-false}
+use Rattle.calendar.specs.Calendar.{if◌then◌else◌}
+use Rattle.machine.specs.declared.State.{State}
+use Rattle.machine.specs.Compute.{walk}
+use Rattle.rule.specs.declared.rrule.Rule.{Rule}
+use Rattle.stretches.specs.declared.counter_date.Days.{Days}
+use Rattle.stretches.specs.Stretches.{days_in}
+use Rattle.years.specs.declared.iterinfo.IterInfo.{IterInfo}
+use Rattle.plans.specs.declared.plan.Plan.{Plan}
+use Rattle.units.specs.Years.{is_in_year}
+use Rattle.walks.specs.declared.rrule_iter.Walked.{Walked}
+use Rattle.walks.specs.Walks.{given_by, now_of, walked_by}
+use Rattle.opened.specs.Opened.{span_of}
+use Rattle.settling.specs.declared.rrule_iter.Settled.{Settled}
+use Rattle.settling.specs.Settling.{settled}
+use Rattle.listing.proofs.Turns.{Going, At, Turn, Opens, Walks, to_walk, fits, span_is, info_made, info_covers, sound, ready, refused_right, goes}
+use Rattle.listing.proofs.Turns.{room_is, stops_right, moves_left, no_tick_right, range_right, moves_one, leads_on}
+use Rattle.listing.proofs.Turns.{begins_at, rebuilt, nearer_by_year, nearer_by_move}
+use Rattle.listing.proofs.rrule_iter.run_on.Goals as goal
+use Rattle.listing.proofs.rrule_iter.run_on.Goals.{After-is_taken}
+
+-- whether a year covers the period of this number
+abbrev is_covered : Plan → IterInfo → ℕ → Bool
+is_covered plan info number = is_in_year info.year (days_in plan.shape.freq number).from
+
+-- ---- what is known once the cursor is tried: the turn, what it opens, and its walk
+
+turn : After-is_taken → Turn
+turn c = record {
+  r = c.args.rule;
+  h = c.requires.0;
+  one = c.requires.5;
+  plan = c.args.plan;
+  p = c.requires.1;
+  m = c.args.m;
+  c = c.args.cursor;
+  running = c.requires.4;
+  b₀ = c.args.buffer.now;
+  buffer = c.loop-info.buffer;
+  counter = c.loop-info.counter;
+  held = c.loop-info.held;
+  tried = c.loop-info.tried;
+  days = c.loop-info.days;
+  places = c.loop-info.places;
+  info = c.loop-info.info;
+  a = c.loop-info.invariant;
+  span = c.days_of-span.result;
+  s = c.days_of-span.ensures;
+  covered = sym c.covers.ensures ∙ not-false _ c.if-not-covers.false-raw;
+}
+
+opens : (c : After-is_taken) → Opens (turn c)
+unfolding turn
+opens c = record {
+  period = c.open_period-period.result;
+  days = c.open_period-period.new.days;
+  places = c.open_period-period.new.places;
+  period_told = c.open_period-period.ensures.period;
+  days_told = c.open_period-period.ensures.days;
+  places_told = c.open_period-period.ensures.places;
+}
+
+-- the cursor is taken, so the run goes on
+going : (c : After-is_taken) → c.is_taken.result ≡ true →
+    let t = turn c in
+    Going t.r t.m t.c t.b₀ t.buffer t.counter.k t.held
+unfolding turn opens
+going c e = goes (turn c) (opens c) c.is_taken.result c.is_taken.ensures e
+
+walks : (c : After-is_taken) → c.is_taken.result ≡ true → (w : Walked) (buffer : List ℕ) →
+    let t = turn c in
+    walked_by w buffer ≡ walk (given_by t.plan.bounds) (to_walk t (opens c)) (now_of State.Running t.held t.buffer) → Walks t (opens c)
+walks c e w buffer told = record {
+  going = going c e;
+  w = w;
+  buffer = buffer;
+  told = told;
+}
+
+-- ---- the calls' conditions, the loop, and the answers
+
+pub loop-info-init : goal.loop-info-init
+loop-info-init c =
+    let a = c.args in
+    let span = span_is a.rule a.plan c.requires.1 a.cursor.k a.begun c.days_of-first.result c.requires.2 c.days_of-first.ensures in
+    begins_at a.rule a.m a.cursor c.held_at-held.result a.buffer.now a.begun _ _ c.rebuild-info.result _
+    c.requires.3 c.held_at-held.ensures c.requires.2 refl refl
+    (info_made a.rule a.plan c.requires.1 c.requires.0 a.cursor.k c.requires.3 c.days_of-first.result span c.rebuild-info.result
+    c.year_at.result c.year_at.ensures c.rebuild-info.ensures)
+    c.well_formed.1.1.1.1.1.0.1
+
+pub loop-info-smaller-then-not-covers : goal.loop-info-smaller-then-not-covers
+loop-info-smaller-then-not-covers c =
+    let a = c.args in
+    let l = c.loop-info in
+    let info = c.rebuild-info-then-not-covers in
+    let span = span_is a.rule a.plan c.requires.1 l.counter.k l.counter c.days_of-span.result l.invariant.counted c.days_of-span.ensures in
+    nearer_by_year (2 * (a.m - l.held.moves)) _ _
+    (ap (λ (x : Days). is_in_year l.info.year x.from) (sym c.days_of-span.ensures) ∙ sym c.covers.ensures ∙ not-true _ c.if-not-covers.true-raw)
+    (ap (λ (x : Days). is_in_year info.result.year x.from) (sym c.days_of-span.ensures)
+    ∙ info_covers a.rule a.plan c.requires.1 c.requires.0 l.counter.k l.invariant.ranged c.days_of-span.result span info.result
+    c.year_at-then-not-covers.result c.year_at-then-not-covers.ensures info.ensures)
+
+pub loop-info-preserved-then-not-covers : goal.loop-info-preserved-then-not-covers
+loop-info-preserved-then-not-covers c =
+    let a = c.args in
+    let l = c.loop-info in
+    let info = c.rebuild-info-then-not-covers in
+    let span = span_is a.rule a.plan c.requires.1 l.counter.k l.counter c.days_of-span.result l.invariant.counted c.days_of-span.ensures in
+    rebuilt a.rule a.m a.cursor _ _ _ _ _ _ _ l.info info.result _ l.invariant
+    (info_made a.rule a.plan c.requires.1 c.requires.0 l.counter.k l.invariant.ranged c.days_of-span.result span info.result
+    c.year_at-then-not-covers.result c.year_at-then-not-covers.ensures info.ensures)
+
+pub shape_of-buffer-then-not-is_taken : goal.shape_of-buffer-then-not-is_taken
+shape_of-buffer-then-not-is_taken c = c.loop-info.invariant.room
+
+pub returns-then-not-is_taken : goal.returns-then-not-is_taken
+unfolding turn opens
+returns-then-not-is_taken c =
+    let d = (goal.at.returns-then-not-is_taken c).After-is_taken in
+    refused_right (turn d) (opens d) c.is_taken.result c.is_taken.ensures c.refused.result c.refused.ensures
+    (not-true _ c.if-not-is_taken.true-raw)
+
+pub walk_period-walked-requires : goal.walk_period-walked-requires
+unfolding turn opens going
+walk_period-walked-requires c =
+    let d = (goal.at.walk_period-walked-requires c).After-is_taken in
+    let t = turn d in
+    (sound t (opens d), ready t (opens d) (going d (not-false _ c.if-not-is_taken.false-raw)) c.well_formed.1.1.1.1.0.1)
+
+pub shape_of-buffer-in-Stops : goal.shape_of-buffer-in-Stops
+unfolding turn opens walks
+shape_of-buffer-in-Stops c =
+    let d = (goal.at.shape_of-buffer-in-Stops c).After-is_taken in
+    let v = walks d (not-false _ c.if-not-is_taken.false-raw) c.walk_period-walked.result c.walk_period-walked.new.buffer c.walk_period-walked.ensures in
+    room_is (turn d) (opens d) v
+
+pub returns-in-Stops : goal.returns-in-Stops
+unfolding turn opens walks
+returns-in-Stops c =
+    let d = (goal.at.returns-in-Stops c).After-is_taken in
+    let v = walks d (not-false _ c.if-not-is_taken.false-raw) c.walk_period-walked.result c.walk_period-walked.new.buffer c.walk_period-walked.ensures in
+    stops_right (turn d) (opens d) v c.in-Stops.answer (sym c.in-Stops.is ∙ c.settle.ensures)
+
+pub loop-info-smaller : goal.loop-info-smaller
+unfolding turn opens walks
+loop-info-smaller c =
+    let d = (goal.at.loop-info-smaller c).After-is_taken in
+    let v = walks d (not-false _ c.if-not-is_taken.false-raw) c.walk_period-walked.result c.walk_period-walked.new.buffer c.walk_period-walked.ensures in
+    let t = turn d in
+    let q = sym c.in-Moves.is ∙ c.settle.ensures in
+    nearer_by_move t.m t.held.moves c.moved_to-held.result.moves (is_covered t.plan t.info t.counter.number)
+    (is_covered t.plan t.info c.in-To.next.number) (moves_left t (opens d) v q)
+    (moves_one t (opens d) v q c.increment.result c.increment.ensures c.in-To.next
+    c.in-To.is c.moved_to-held.result c.moved_to-held.ensures)
+
+pub loop-info-preserved : goal.loop-info-preserved
+unfolding turn opens walks
+loop-info-preserved c =
+    let d = (goal.at.loop-info-preserved c).After-is_taken in
+    let v = walks d (not-false _ c.if-not-is_taken.false-raw) c.walk_period-walked.result c.walk_period-walked.new.buffer c.walk_period-walked.ensures in
+    leads_on (turn d) (opens d) v (sym c.in-Moves.is ∙ c.settle.ensures) c.increment.result c.increment.ensures c.in-To.next
+    c.in-To.is c.moved_to-held.result c.moved_to-held.ensures
+
+pub shape_of-buffer-in-NoTick : goal.shape_of-buffer-in-NoTick
+unfolding turn opens walks
+shape_of-buffer-in-NoTick c =
+    let d = (goal.at.shape_of-buffer-in-NoTick c).After-is_taken in
+    let v = walks d (not-false _ c.if-not-is_taken.false-raw) c.walk_period-walked.result c.walk_period-walked.new.buffer c.walk_period-walked.ensures in
+    room_is (turn d) (opens d) v
+
+pub returns-in-NoTick : goal.returns-in-NoTick
+unfolding turn opens walks
+returns-in-NoTick c =
+    let d = (goal.at.returns-in-NoTick c).After-is_taken in
+    let v = walks d (not-false _ c.if-not-is_taken.false-raw) c.walk_period-walked.result c.walk_period-walked.new.buffer c.walk_period-walked.ensures in
+    no_tick_right (turn d) (opens d) v (sym c.in-Moves.is ∙ c.settle.ensures) c.increment.result
+    c.increment.ensures c.ended.result c.in-NoTick.is c.ended.ensures
+
+pub shape_of-buffer-in-Range : goal.shape_of-buffer-in-Range
+unfolding turn opens walks
+shape_of-buffer-in-Range c =
+    let d = (goal.at.shape_of-buffer-in-Range c).After-is_taken in
+    let v = walks d (not-false _ c.if-not-is_taken.false-raw) c.walk_period-walked.result c.walk_period-walked.new.buffer c.walk_period-walked.ensures in
+    room_is (turn d) (opens d) v
+
+pub returns-in-Range : goal.returns-in-Range
+unfolding turn opens walks
+returns-in-Range c =
+    let d = (goal.at.returns-in-Range c).After-is_taken in
+    let v = walks d (not-false _ c.if-not-is_taken.false-raw) c.walk_period-walked.result c.walk_period-walked.new.buffer c.walk_period-walked.ensures in
+    range_right (turn d) (opens d) v (sym c.in-Moves.is ∙ c.settle.ensures) c.increment.result
+    c.increment.ensures c.ended-in-Range.result c.in-Range.is c.ended-in-Range.ensures
