@@ -30,10 +30,9 @@ fn read_all(piece: &mut [u8], line: &mut [u8], out: &mut [u8], first: Places) ->
     places
 }
 
-// Reads once.
+// Reads a whole piece, or up to the input's end.
 fn read_some(piece: &mut [u8], line: &mut [u8], out: &mut [u8], places: Places) -> Places {
-    let got = libc::read(0, piece);
-    let count = io::count(got, piece);
+    let count = io::read_full(0, piece);
     if count == 0 {
         return end_input(line, out, places);
     }
