@@ -89,6 +89,7 @@ module _ (A : Type 0) (L : A → List ℕ → Type 0) (f : A → ℤ) (most : (a
   each_in : (n : ℕ) (u : Unit {0}) (vs : List A) (zs : List ℕ) → Joined (Unit {0}) A stays (λ (u : Unit {0}). L) comma n u vs zs
       → (length vs ≤ suc n) × EachWithin 999 (map f vs)
   unfolding EachWithin
+  each_in n u [] zs j = elim j [ ]
   each_in n u (a ∷ []) zs (one l) = (omega arith, (most a zs l, tt))
   each_in (suc n) u (a ∷ vs) zs (more xs ys l j e) =
       let k = each_in n u vs ys j in

@@ -71,6 +71,9 @@ pass_by p ps e f = ap (λ (b : Bool). is_there (if b then p.second else value_in
 freq_added : (n : ℕ) (s : List Bool) (ps : List Part) (zs : List ℕ) → Joined (List Bool) Part with_used PartText semicolon n s ps zs → Left n s
     → is_used s 0 ≡ false → is_there (value_in 0 ps) ≡ false → Added n s zs
 unfolding value_in
+freq_added zero s [] zs j i u e = elim j [ ]
+freq_added zero s (p ∷ (q ∷ qs)) zs j i u e = elim j [ ]
+freq_added (suc n) s [] zs j i u e = elim j [ ]
 freq_added zero s (p ∷ []) zs (one l) i u e =
     let o : Other s p [] = lacks s p [] zs l u e in
     let a : open_in s ≡ suc (open_in (with_used s p)) = one_less s p.first l.left.unused in

@@ -53,6 +53,7 @@ module _ (A B : Type 0) (f : A → B) (L : A → List ℕ → Type 0) where
 
 module _ (S A : Type 0) (next : S → A → S) (L : S → A → List ℕ → Type 0) (c : ℕ) (f : (s : S) → Filled (L s)) where
   empty_joined : (n : ℕ) (s : S) (bs : List A) (zs : List ℕ) → Joined S A next L c n s bs zs → zs ≡ [] → ⊥
+  empty_joined n s [] zs j e = elim j [ ]
   empty_joined n s (a ∷ []) zs (one l) e = f s a (rw e at l)
   empty_joined (suc n) s (a ∷ bs) zs (more xs ys l j d) e = not_empty (second_empty xs (c ∷ ys) (sym e ∙ d))
 

@@ -37,6 +37,7 @@ found_first i s p ps xs d f = go (eqb p.first i) refl
 found : (n : ℕ) (s : List Bool) (ps : List Part) (zs : List ℕ) → Joined (List Bool) Part with_used PartText semicolon n s ps zs
     → (i : ℕ) → Found (kind_of i) (value_in i ps)
 unfolding value_in
+found n s [] zs j i = elim j [ ]
 found n s (p ∷ []) zs (one l) i = found_first i s p [] zs l (inl refl)
 found (suc n) s (p ∷ ps) zs (more xs ys l j e) i = found_first i s p ps xs l (found n (with_used s p) ps ys j i)
 
