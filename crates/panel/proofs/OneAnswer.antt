@@ -9,11 +9,6 @@ use Rattle.calendar.proofs.AsksNothing.{AsksNothing, nothing_asked}
 use Rattle.edge.specs.Edge.{Said, Shown, shown}
 use Rattle.panel.proofs.yomaveludge_check.Kinds as check-kinds
 use Rattle.panel.proofs.yomaveludge_check.Reads as check
-use Rattle.panel.specs.Texts.{TextSaid, text_said}
-use Rattle.panel.proofs.yomaveludge_read.Kinds as read-kinds
-use Rattle.panel.proofs.yomaveludge_read.Reads as read
-use Rattle.panel.proofs.yomaveludge_write.Kinds as write-kinds
-use Rattle.panel.proofs.yomaveludge_write.Reads as write
 use Rattle.panel.proofs.yomaveludge_fresh.Kinds as fresh-kinds
 use Rattle.panel.proofs.yomaveludge_fresh.Reads as fresh
 use Rattle.panel.proofs.yomaveludge_run.Kinds as run-kinds
@@ -33,18 +28,6 @@ pub run_has_one : DeterminesBuffer 6 run-kinds.ps run-kinds.r Shown
 run_has_one κs a x y e f p q =
     (ap (λ (z : Shown). z.stop) (one_answer p q), ap (λ (z : Shown). shown 0 z.cursor z.buffer z.moves z.handed z.cause) (one_answer p q))
 
--- the record's bytes and the place; the text's bytes, the 18th parameter, and the length
-pub read_has_one : DeterminesBuffer 3 read-kinds.ps read-kinds.r TextSaid
-    (λ κs e. text_said 0 e.1.1.0.now e.1.1.1.0.now) read.Post
-read_has_one κs a x y e f p q =
-    (ap (λ (z : TextSaid). z.number) (one_answer p q), ap (λ (z : TextSaid). text_said 0 z.bytes z.told) (one_answer p q))
-
-pub write_has_one : DeterminesBuffer 12 write-kinds.ps write-kinds.r TextSaid
-    (λ κs e. text_said 0 e.1.1.1.1.1.1.1.1.1.1.1.1.1.1.1.1.1.0.now e.1.1.1.1.1.1.1.1.1.1.1.1.1.1.1.1.1.1.0.now)
-    write.Post
-write_has_one κs a x y e f p q =
-    (ap (λ (z : TextSaid). z.number) (one_answer p q), ap (λ (z : TextSaid). text_said 0 z.bytes z.told) (one_answer p q))
-
 -- none asks anything of C
 pub check_asks_nothing : AsksNothing 11 check-kinds.ps check.requires
 check_asks_nothing κs a = nothing_asked
@@ -54,9 +37,3 @@ fresh_asks_nothing κs a = nothing_asked
 
 pub run_asks_nothing : AsksNothing 6 run-kinds.ps run.requires
 run_asks_nothing κs a = nothing_asked
-
-pub read_asks_nothing : AsksNothing 3 read-kinds.ps read.requires
-read_asks_nothing κs a = nothing_asked
-
-pub write_asks_nothing : AsksNothing 12 write-kinds.ps write.requires
-write_asks_nothing κs a = nothing_asked

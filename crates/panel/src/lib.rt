@@ -6,29 +6,21 @@ ghost use Rattle.std.specs.Prelude.{◌≡◌};
 ghost use Rattle.rule.specs.Raw.{raw, raw_lists};
 ghost use Rattle.rule.specs.Records.{yielded};
 ghost use Rattle.edge.specs.Layout.{count_from, until_from};
-ghost use Rattle.panel.specs.Texts.{text_said, read_says, write_says};
 ghost use Rattle.edge.specs.Edge.{said, check_says, fresh_says, shown, run_says, stop_number, is_refused, unreadable};
 
 use basics::faults::fault_number;
 use basics::rrule::{fresh, refusal_number};
 use cursor_layout::cursor::{cursor_in, is_cursor_bytes, put_cursor, state_number};
-use display::rrule::write;
 use listing::rrule_iter::run;
 use machine::Stop;
-use parsed::parsed;
 use record_layout::record::{count_from, is_record_bytes, put_record, record_in, until_from};
 use records::is_record;
-use recur::{Told, Written};
 use rule::rrule::{Rule, Verdict};
 use validator::validate_rrule::check;
 
 const BAD_RECORD: u8 = 20;
 
 const BAD_CURSOR: u8 = 21;
-
-const UNREAD: u8 = 50;
-
-const SHORT: u8 = 51;
 
 // The check. COUNT is absent where `counted` is 0, and UNTIL where `bounded` is 0.
 #[unsafe(no_mangle)]
@@ -175,90 +167,4 @@ pub extern "C" fn yomaveludge_run(
     *handed = answer.handed;
     *cause = state_number(state);
     number
-}
-
-// Reads a rule's text and checks the rule with the start. `place` takes the place where a text can't be read.
-#[unsafe(no_mangle)]
-pub extern "C" fn yomaveludge_read(
-    text: &[u8],
-    start: u64,
-    rulebytes: &mut [u8],
-    place: &mut usize,
-) -> u8
-    ensures { text_said result rulebytes.new place.new ≡ read_says text.now start rulebytes.old }
-{
-    *place = 0;
-    let parsed = parsed(text, start);
-    let told = parsed.told;
-    match told {
-        Told::Unread(stopped) => {
-            *place = stopped;
-            return UNREAD;
-        }
-        Told::Refused(refusal) => return refusal_number(refusal),
-        Told::Accepted => {}
-    }
-    let rule = parsed.rule;
-    if put_record(rule, rulebytes) {
-        0
-    } else {
-        BAD_RECORD
-    }
-}
-
-// Writes a rule's text. `length` takes the text's length, or the length needed.
-#[unsafe(no_mangle)]
-pub extern "C" fn yomaveludge_write(
-    freq: u8,
-    interval: u16,
-    counted: u8,
-    count: u32,
-    bounded: u8,
-    until: u64,
-    wkst: u8,
-    bymonth: &[i16],
-    bymonthday: &[i16],
-    byyearday: &[i16],
-    byweekno: &[i16],
-    bydayn: &[i16],
-    bydayw: &[i16],
-    byhour: &[i16],
-    byminute: &[i16],
-    bysecond: &[i16],
-    bysetpos: &[i16],
-    text: &mut [u8],
-    length: &mut usize,
-) -> u8
-    ensures { text_said result text.new length.new ≡ write_says (raw freq interval (count_from counted count) (until_from bounded until) wkst 0 (raw_lists bymonth.now bymonthday.now byyearday.now byweekno.now bydayn.now bydayw.now byhour.now byminute.now bysecond.now bysetpos.now)) text.old }
-{
-    *length = 0;
-    let written = write(
-        freq,
-        interval,
-        count_from(counted, count),
-        until_from(bounded, until),
-        wkst,
-        bymonth,
-        bymonthday,
-        byyearday,
-        byweekno,
-        bydayn,
-        bydayw,
-        byhour,
-        byminute,
-        bysecond,
-        bysetpos,
-        text,
-    );
-    match written {
-        Written::Refused(refusal) => refusal_number(refusal),
-        Written::Short(needed) => {
-            *length = needed;
-            SHORT
-        }
-        Written::Text(needed) => {
-            *length = needed;
-            0
-        }
-    }
 }

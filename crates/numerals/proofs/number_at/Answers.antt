@@ -1,0 +1,50 @@
+-- `numerals::number_at` meets its contract: what is read from the first place on is what is still to be read, with what is read.
+-- Assumes nothing.
+use Prim.Native.Nat.{◌-◌, ◌≤◌}
+use native.Mathlib.Omega.{arith}
+use mathlib.Core.Path.{◌≡◌, refl, sym, ◌∙◌}
+use mathlib.Core.Bool.{false}
+use lib.ListN.{length, drop}
+use Rattle.symbols.specs.Readers.{may_take}
+use Rattle.symbols.specs.Counts.{up_to}
+use Rattle.numerals.specs.Bytes.{passes}
+use Rattle.numerals.proofs.DigitLaws.{Taken, taken, Reads, at_first, one_more, at_last}
+use Rattle.numerals.proofs.CountLaws.{number_high}
+use Rattle.numerals.proofs.number_at.Goals as goal
+use Rattle.numerals.proofs.number_at.Goals.{After-loop-value, In-loop-value}
+
+pub loop-value-init : goal.loop-value-init
+loop-value-init c = (at_first _ _ _ (omega arith), omega arith)
+
+pub number_goes_on-requires : goal.number_goes_on-requires
+number_goes_on-requires c = (omega arith, omega arith)
+
+-- the digit that the loop takes
+digit : (c : In-loop-value) → (let a = c.args in
+    Taken (up_to a.high) (c.loop-value.place - a.at) c.loop-value.value a.text.now c.loop-value.place)
+digit c = taken _ _ _ _ _ (sym c.number_goes_on.ensures ∙ c.loop-value-test.true)
+
+pub with_digit-value-requires : goal.with_digit-value-requires
+with_digit-value-requires c = ((digit c).digit, omega arith)
+
+pub overflow_add-place : goal.overflow_add-place
+overflow_add-place c = omega (arith, (digit (goal.at.overflow_add-place c).In-loop-value).digit.inside)
+
+pub loop-value-smaller : goal.loop-value-smaller
+loop-value-smaller c = omega (arith, (digit (goal.at.loop-value-smaller c).In-loop-value).digit.inside)
+
+pub loop-value-preserved : goal.loop-value-preserved
+loop-value-preserved c =
+    rw c.with_digit-value.ensures (one_more c.loop-value.invariant.0 (digit (goal.at.loop-value-preserved c).In-loop-value), number_high (digit (goal.at.loop-value-preserved c).In-loop-value))
+
+-- where the loop ends no digit may come
+none : (c : After-loop-value) → (let a = c.args in
+    passes (may_take (up_to a.high) (c.loop-value.place - a.at) c.loop-value.value) (drop c.loop-value.place a.text.now) ≡ false)
+none c = sym c.number_goes_on.ensures ∙ c.loop-value-test.false
+
+pub overflow_sub-place : goal.overflow_sub-place
+overflow_sub-place c = omega (arith, c.loop-value.invariant.0.begun)
+
+pub returns : goal.returns
+returns c =
+    c.reached.ensures ∙ at_last _ c.loop-value.invariant.0 (none (goal.at.returns c).After-loop-value) refl

@@ -1,0 +1,43 @@
+-- `panel::yomaveludge_fresh` meets its contract: each way out is a case of what is said.
+-- Assumes nothing.
+use mathlib.Core.Path.{sym, ◌∙◌}
+use borrow.Author.Tests.{not-true, not-false}
+use Rattle.edge.proofs.EdgeLaws.{fresh_no_record, fresh_bad_record, fresh_length, fresh_made}
+use Rattle.cursor_layout.proofs.LengthLaws.{put_done, put_refused}
+use Rattle.record_layout.proofs.RecordIs.{record_is}
+use Rattle.panel.proofs.yomaveludge_fresh.Goals as goal
+
+pub returns-then-not-is_record_bytes : goal.returns-then-not-is_record_bytes
+returns-then-not-is_record_bytes c =
+    let a = c.args in
+    fresh_no_record a.rulebytes.now a.cursorbytes.now (sym c.is_record_bytes.ensures ∙ not-true _ c.if-not-is_record_bytes.true-raw)
+
+pub returns-then-not-is_record : goal.returns-then-not-is_record
+returns-then-not-is_record c =
+    let read = c in
+    let a = read.args in
+    let held = record_is _ _ (sym read.is_record_bytes.ensures ∙ not-false _ read.if-not-is_record_bytes.false-raw) read.record_in-rule.ensures in
+    fresh_bad_record a.rulebytes.now a.cursorbytes.now _ held (sym c.is_record.ensures ∙ not-true _ c.if-not-is_record.true-raw)
+
+pub returns-then-put_cursor : goal.returns-then-put_cursor
+returns-then-put_cursor c =
+    let put = c in
+    let made = put in
+    let judged = made in
+    let read = judged in
+    let a = read.args in
+    let held = record_is _ _ (sym read.is_record_bytes.ensures ∙ not-false _ read.if-not-is_record_bytes.false-raw) read.record_in-rule.ensures in
+    let good = sym judged.is_record.ensures ∙ not-false _ judged.if-not-is_record.false-raw in
+    let done = put_done 22 _ a.cursorbytes.now _ _ put.put_cursor.ensures c.if-put_cursor.true in
+    fresh_made a.rulebytes.now a.cursorbytes.now _ held _ _ good done.0 made.fresh.ensures done.1
+
+pub returns-else-put_cursor : goal.returns-else-put_cursor
+returns-else-put_cursor c =
+    let put = c in
+    let judged = put in
+    let read = judged in
+    let a = read.args in
+    let held = record_is _ _ (sym read.is_record_bytes.ensures ∙ not-false _ read.if-not-is_record_bytes.false-raw) read.record_in-rule.ensures in
+    let good = sym judged.is_record.ensures ∙ not-false _ judged.if-not-is_record.false-raw in
+    let done = put_refused 22 _ a.cursorbytes.now _ _ put.put_cursor.ensures c.if-put_cursor.false in
+    fresh_length a.rulebytes.now a.cursorbytes.now _ held _ good done.0 done.1

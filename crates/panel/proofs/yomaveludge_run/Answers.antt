@@ -1,0 +1,52 @@
+-- `panel::yomaveludge_run` meets its contract: each way out is a case of what is shown.
+-- Assumes nothing.
+use mathlib.Core.Path.{sym, ◌∙◌}
+use borrow.Author.Tests.{not-true, not-false}
+use Rattle.edge.proofs.EdgeLaws.{cursor_size, run_no_record, run_no_cursor, run_refused, run_answers}
+use Rattle.cursor_layout.proofs.LengthLaws.{put_at, cursor_is}
+use Rattle.record_layout.proofs.RecordIs.{record_is}
+use Rattle.panel.proofs.yomaveludge_run.Goals as goal
+
+pub returns-then-not-is_record_bytes : goal.returns-then-not-is_record_bytes
+returns-then-not-is_record_bytes c =
+    let a = c.args in
+    run_no_record a.rulebytes.now a.cursorbytes.now a.buffer.now a.moves
+    (sym c.is_record_bytes.ensures ∙ not-true _ c.if-not-is_record_bytes.true-raw)
+
+pub returns-then-not-is_cursor_bytes : goal.returns-then-not-is_cursor_bytes
+returns-then-not-is_cursor_bytes c =
+    let tested = c in
+    let read = tested in
+    let a = read.args in
+    let held = record_is _ _ (sym read.is_record_bytes.ensures ∙ not-false _ read.if-not-is_record_bytes.false-raw) read.record_in-rule.ensures in
+    run_no_cursor a.rulebytes.now a.cursorbytes.now a.buffer.now a.moves _ held
+    _ (sym tested.is_cursor_bytes.ensures ∙ not-true _ c.if-not-is_cursor_bytes.true-raw) c.unreadable_number.ensures
+
+pub returns-then-is_refused : goal.returns-then-is_refused
+returns-then-is_refused c =
+    let stopped = c in
+    let ran = stopped in
+    let found = ran in
+    let read = found in
+    let a = read.args in
+    let held = record_is _ _ (sym read.is_record_bytes.ensures ∙ not-false _ read.if-not-is_record_bytes.false-raw) read.record_in-rule.ensures in
+    let taken = sym found.is_cursor_bytes.ensures ∙ not-false _ found.if-not-is_cursor_bytes.false-raw in
+    let from = cursor_is _ _ taken found.cursor_in-cursor.ensures in
+    run_refused a.rulebytes.now a.cursorbytes.now a.buffer.now a.moves _ held _ from _ _ ran.run-answer.ensures
+    _ stopped.stop_number-number.ensures (sym c.is_refused.ensures ∙ c.if-is_refused.true)
+
+pub returns : goal.returns
+returns c =
+    let put = c in
+    let going = put in
+    let stopped = going in
+    let ran = stopped in
+    let found = ran in
+    let read = found in
+    let a = read.args in
+    let held = record_is _ _ (sym read.is_record_bytes.ensures ∙ not-false _ read.if-not-is_record_bytes.false-raw) read.record_in-rule.ensures in
+    let taken = sym found.is_cursor_bytes.ensures ∙ not-false _ found.if-not-is_cursor_bytes.false-raw in
+    let from = cursor_is _ _ taken found.cursor_in-cursor.ensures in
+    run_answers a.rulebytes.now a.cursorbytes.now a.buffer.now a.moves _ held _ from _ _ ran.run-answer.ensures
+    _ _ _ stopped.stop_number-number.ensures (sym going.is_refused.ensures ∙ going.if-is_refused.false)
+    (put_at 22 _ _ _ _ put.put_cursor.ensures (cursor_size _ taken)) c.state_number.ensures
