@@ -2,15 +2,15 @@
 -- Assumes nothing.
 use mathlib.Core.Path.{◌≡◌, refl, ◌∙◌, ap}
 use mathlib.Core.Bool.{Bool, true, false, ◌&&◌}
-use mathlib.Core.List.{List, []}
-use Prim.Native.Nat.{ℕ, zero, suc, ◌+◌, ◌-◌, ◌≤◌, ◌<◌}
+use mathlib.Core.List.{[]}
+use Prim.Native.Nat.{ℕ, ◌+◌, ◌-◌, ◌≤◌}
 use native.Mathlib.Omega.{arith}
 use lib.Dec.{leb, ltb}
 use borrow.Author.Tests.{le-leb, ltb-true}
 use Rattle.calendar.specs.declared.utils.Date.{Date}
 use Rattle.calendar.specs.Calendar.{if◌then◌else◌, leap, days_of, new_year, year_of, month_length, days_before_month, first_of, day_of_date, MonthDay, no_day}
 use Rattle.calendar.specs.Calendar.{month_day_of, tab, date_in, year_day, date_of}
-use Rattle.calendar.specs.Claims.{InPlace, IsDate, DateIs, DayOfItsDate, DateOfItsDay}
+use Rattle.calendar.specs.Claims.{DateIs, DayOfItsDate, DateOfItsDay}
 use Rattle.calendar.proofs.Table.{same_below}
 use Rattle.calendar.proofs.Years.{place_is, one_place}
 use Rattle.calendar.proofs.Months.{month_day_is, at_most_31}

@@ -9,7 +9,7 @@ use mathlib.Core.List.{◌∷◌}
 use lib.ListN.{get_or, get_or-eq_default}
 use lib.Dec.{eqb, leb}
 use borrow.Author.Tests.{eqb-true, leb-true, le-ltb, lt-ltb}
-use Rattle.calendar.specs.Calendar.{if◌then◌else◌, leap, days_of, new_year, month_lengths, month_length, days_before_month, first_of, MonthDay}
+use Rattle.calendar.specs.Calendar.{leap, days_of, month_lengths, month_length, days_before_month, first_of, MonthDay}
 use Rattle.calendar.specs.Calendar.{month_day_of, no_day, table_day, year_table}
 use Rattle.calendar.specs.Claims.{MonthsFollow, DecemberEnds}
 use Rattle.calendar.proofs.Table.{tab_at, same_below}

@@ -1,6 +1,6 @@
 -- Years: one follows the other by the leap rule, each day lies in one, and 400 of them are whole weeks.
 -- Assumes nothing.
-use mathlib.Core.Path.{◌≡◌, refl, sym, ◌∙◌, subst}
+use mathlib.Core.Path.{◌≡◌, refl, subst}
 use mathlib.Core.Bool.{Bool, true, false, not, ◌&&◌, ◌||◌}
 use Prim.Native.Nat.{ℕ, zero, suc, ◌+◌, ◌-◌, ◌*◌, ◌/◌, ◌%◌, ◌≤◌, ◌<◌}
 use native.Mathlib.Omega.{arith}
@@ -9,8 +9,8 @@ use native.Mathlib.Decide.{dec_lt}
 use native.Mathlib.Numerals.{add-one}
 use lib.Dec.{eqb, ltb}
 use borrow.Author.Tests.{eqb-true, eqb-false, ltb-true, ltb-false}
-use Rattle.calendar.specs.Calendar.{if◌then◌else◌, leap, days_of, year_length, days_of_years, new_year, year_from, year_of, year_day, weekday}
-use Rattle.calendar.specs.Claims.{NewYearIs, YearsFollow, InYear, YearOfIs, OneYear, InPlace, PlaceIs, OnePlace, FourCenturies, LeapYearsComeRound, WeekdaysComeRound}
+use Rattle.calendar.specs.Calendar.{if◌then◌else◌, leap, days_of, year_length, days_of_years, new_year, year_from, year_of, year_day}
+use Rattle.calendar.specs.Claims.{NewYearIs, YearsFollow, InYear, YearOfIs, OneYear, PlaceIs, OnePlace, FourCenturies, LeapYearsComeRound, WeekdaysComeRound}
 
 -- a ≢ would cost omega a case split each, and it has six
 above_zero : (a : ℕ) → eqb a 0 ≡ false → 0 < a

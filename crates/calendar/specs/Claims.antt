@@ -1,6 +1,6 @@
 -- What is claimed of the calendar's definitions; proofs/ has a proof of each claim, under the same name in small letters.
 -- Assumes nothing.
-use Rattle.std.specs.Prelude.{ℕ, ◌+◌, ◌-◌, ◌*◌, ◌%◌, ◌≤◌, ◌<◌, ◌≡◌}
+use Rattle.std.specs.Prelude.{ℕ, ◌+◌, ◌*◌, ◌≤◌, ◌<◌, ◌≡◌}
 use Rattle.calendar.specs.declared.utils.Date.{Date}
 use Rattle.calendar.specs.Calendar.{leap, year_length, days_of_years, new_year, year_of, month_length, first_of, day_of_date, year_day, date_of, weekday}
 

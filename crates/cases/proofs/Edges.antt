@@ -1,6 +1,5 @@
 -- The edges: fifty-third weekdays, cut weeks, sets of positions, filling in, the first and the last year.
 -- Assumes nothing.
-use Prim.Native.Nat.{◌+◌}
 use mathlib.Core.Path.{◌≡◌, refl}
 use mathlib.Core.List.{[], ◌∷◌}
 use lib.IntN.{pos, negsuc}

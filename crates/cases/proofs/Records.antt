@@ -14,7 +14,6 @@ use Rattle.rule.specs.declared.rrule.Count.{Count}
 use Rattle.rule.specs.declared.rrule.Until.{Until}
 use Rattle.rule.specs.declared.rrule.Refusal.{Refusal}
 use Rattle.rule.specs.Raw.{raw, raw_lists}
-use Rattle.rule.specs.Filling.{given, fill}
 use Rattle.cases.specs.Play.{of, at, told, Outcome.refused, play, play_from, on_given, on_filled}
 
 -- DAILY, nothing filled in: 20

@@ -9,7 +9,6 @@ use Rattle.machine.specs.Compute.{walk}
 use Rattle.rule.specs.declared.rrule.Count.{Count}
 use Rattle.rule.specs.declared.rrule.Frequency.{Frequency}
 use Rattle.rule.specs.declared.rrule.Until.{Until}
-use Rattle.times.specs.declared.iterinfo.Counts.{Counts}
 use Rattle.times.specs.TimeSets.{time_at}
 use Rattle.walks.specs.declared.rrule_iter.Why.{Why}
 use Rattle.walks.specs.declared.rrule_iter.Held.{Held}

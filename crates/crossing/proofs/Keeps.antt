@@ -4,18 +4,17 @@ use Prim.Native.Nat.{ℕ, zero, suc, ◌+◌, ◌-◌, ◌≤◌, ◌<◌}
 use mathlib.Core.Path.{◌≡◌, refl, sym, ap, subst, ◌∙◌}
 use mathlib.Core.Bool.{Bool, true, false}
 use mathlib.Core.List.{List, [], ◌∷◌}
-use lib.ListN.{length, set, length-set}
-use lib.Dec.{eqb}
+use lib.ListN.{length, length-set}
 use native.Mathlib.Omega.{arith}
 use borrow.Author.Tests.{eqb-false}
 use Rattle.machine.specs.declared.Cause.{Cause}
 use Rattle.machine.specs.declared.State.{State}
 use Rattle.machine.specs.declared.Stop.{Stop}
 use Rattle.machine.specs.declared.Cursor.{Cursor}
-use Rattle.machine.specs.Given.{Given, above, reaches}
+use Rattle.machine.specs.Given.{Given, reaches}
 use Rattle.machine.specs.Cursors.{end_by, pass, hand_out}
 use Rattle.machine.specs.Run.{Deed, Deed.leaves, Deed.hands, counted, late, early, at_candidate, Now, does, full}
-use Rattle.machine.specs.Compute.{Walked, Walked.stopped, outcome, proceed, walk}
+use Rattle.machine.specs.Compute.{Walked.stopped, outcome, proceed, walk}
 use Rattle.walks.specs.declared.rrule_iter.Held.{Held}
 use Rattle.walks.specs.declared.rrule_iter.Walked as answer
 use Rattle.walks.specs.declared.rrule_iter.Bounds.{Bounds}

@@ -9,10 +9,8 @@ use lib.Seq.{get_or-take, get_or-drop}
 use native.Mathlib.Omega.{arith}
 use native.Mathlib.Decide.{dec_lt}
 use borrow.Author.Tests.{lt-ltb, le-leb, not-false}
-use Rattle.calendar.specs.declared.utils.Date.{Date}
-use Rattle.calendar.specs.Calendar.{if◌then◌else◌, leap, days_of, year_length, new_year, year_of, date_in, year_day, date_of, weekday}
+use Rattle.calendar.specs.Calendar.{if◌then◌else◌, leap, days_of, year_length, new_year, year_of, date_in, date_of, weekday}
 use Rattle.calendar.specs.Calendar.{MonthDay, no_day, month_day_of, from_end, table_day, month_table, month_day_table, from_end_table}
-use Rattle.calendar.specs.Claims.{InPlace}
 use Rattle.calendar.proofs.Table.{same_below}
 use Rattle.calendar.proofs.Years.{years_follow, one_place}
 use Rattle.calendar.proofs.Months.{in_year, table_at}

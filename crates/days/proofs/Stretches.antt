@@ -9,8 +9,8 @@ use lib.Seq.{sets}
 use native.Mathlib.Omega.{arith}
 use native.Mathlib.Decide.{dec_lt}
 use borrow.Author.Tests.{lt-ltb, le-ltb, not-true, not-false}
-use Rattle.calendar.specs.Calendar.{if◌then◌else◌, days_of, weekday}
-use Rattle.rule.specs.Candidates.{gather, only}
+use Rattle.calendar.specs.Calendar.{if◌then◌else◌, days_of}
+use Rattle.rule.specs.Candidates.{gather}
 use Rattle.rule.proofs.GivenLaws.{neither}
 use Rattle.clocks.specs.Blocks.{passing}
 use Rattle.clocks.proofs.Tied.{passing_same}

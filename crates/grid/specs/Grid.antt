@@ -1,9 +1,8 @@
 -- How a case of the grid is held: the whole answer of a rule's calls, or the number of its refusal.
 -- Assumes nothing.
-use Rattle.std.specs.Prelude.{ℕ, ◌≡◌, List, [], ◌∷◌, map}
+use Rattle.std.specs.Prelude.{ℕ, ◌≡◌, List, [], map}
 use Rattle.calendar.specs.Calendar.{leap, new_year, days_before_month}
 use Rattle.machine.specs.declared.State.{State}
-use Rattle.machine.specs.declared.Fault.{Fault}
 use Rattle.machine.specs.declared.Stop.{Stop}
 use Rattle.machine.specs.declared.Cursor.{Cursor}
 use Rattle.machine.specs.Faults.{fault_number}

@@ -3,19 +3,16 @@
 use Prim.Native.Nat.{ℕ, ◌+◌, ◌≤◌}
 use mathlib.Core.Path.{◌≡◌, refl, sym, ap, ◌∙◌, subst}
 use mathlib.Core.Logic.{◌↔◌}
-use mathlib.Core.Bool.{Bool, true, false}
-use mathlib.Core.List.{List, [], ◌∷◌, ◌++◌, map}
+use mathlib.Core.Bool.{true, false}
+use mathlib.Core.List.{List, [], ◌∷◌, map}
 use lib.ListN.{length, take, drop}
-use Rattle.machine.specs.declared.Cause.{Cause}
-use Rattle.machine.specs.declared.State.{State}
 use Rattle.machine.specs.declared.Fault.{Fault}
 use Rattle.machine.specs.declared.Stop.{Stop}
 use Rattle.machine.specs.declared.Cursor.{Cursor}
-use Rattle.machine.specs.declared.Answer.{Answer}
 use Rattle.machine.specs.Rising.{◌∈◌}
 use Rattle.machine.specs.Cursors.{WellFormed}
-use Rattle.machine.specs.Run.{Call, Outcome}
-use Rattle.machine.specs.Calls.{Answered, beside, answered, Told, tells, join, still, chain, Each}
+use Rattle.machine.specs.Run.{Call}
+use Rattle.machine.specs.Calls.{Answered, beside, answered, Told, tells, join, chain, Each}
 use Rattle.machine.specs.Promises.{Reason, KeepsTo}
 use Rattle.machine.specs.Faults.{refused_answer}
 use Rattle.machine.proofs.Refusals.{record_refused, cursor_refused, refused_as_given}
@@ -32,7 +29,7 @@ use denote.Triple.Clauses.{AtExit}
 use borrow.Fn.Kinds.{Dens, res_t, ended_of}
 use Rattle.listing.proofs.rrule_iter.run.Kinds as run-kinds
 use Rattle.listing.proofs.rrule_iter.run.Reads as run
-use Rattle.listing.specs.Demands.{Made, Promised, Chain, handed_out, left_by, DemandOne, Stopped, Kept, AllKept, Listing, DemandThree, DemandThreeBefore}
+use Rattle.listing.specs.Demands.{Made, Promised, Chain, handed_out, left_by, DemandOne, Stopped, Kept, AllKept, DemandThree, DemandThreeBefore}
 use Rattle.listing.specs.Demands.{NeverByInterval}
 
 abbrev given : Made → Call ℕ

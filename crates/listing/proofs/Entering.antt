@@ -4,7 +4,6 @@ use Prim.Native.Nat.{ℕ}
 use mathlib.Core.Path.{◌≡◌, refl, sym, ap, ◌∙◌}
 use mathlib.Core.Bool.{Bool, true, false, ◌&&◌}
 use mathlib.Core.List.{List}
-use native.Mathlib.Omega.{arith}
 use lib.Dec.{leb}
 use Rattle.machine.specs.declared.Cause.{Cause}
 use Rattle.machine.specs.declared.State.{State}
@@ -15,7 +14,7 @@ use Rattle.machine.specs.declared.Answer.{Answer}
 use Rattle.machine.specs.Cursors.{poised, formed_in, well_formed}
 use Rattle.machine.specs.Run.{Call, Now, opened}
 use Rattle.machine.specs.Compute.{resume, runs, run}
-use Rattle.machine.specs.Calls.{beside, answered, call}
+use Rattle.machine.specs.Calls.{beside, answered}
 use Rattle.machine.specs.Faults.{refused_answer}
 use Rattle.machine.proofs.RunLaws.{call_record, call_cursor, call_run}
 use Rattle.rule.specs.declared.rrule.Rule.{Rule}

@@ -1,6 +1,6 @@
 -- One turn of the run's loop: what is opened is the rule's own period, and what is walked are its kept candidates.
 -- Assumes nothing.
-use Prim.Native.Nat.{ℕ, zero, suc, ◌+◌, ◌-◌, ◌*◌, ◌^◌, ◌≤◌, ◌<◌}
+use Prim.Native.Nat.{ℕ, ◌+◌, ◌-◌, ◌*◌, ◌^◌, ◌≤◌, ◌<◌}
 use mathlib.Core.Path.{◌≡◌, refl, sym, ap, ◌∙◌, subst}
 use mathlib.Core.Bool.{Bool, true, false, ◌&&◌, ◌||◌}
 use mathlib.Core.List.{List}
@@ -25,7 +25,6 @@ use Rattle.machine.specs.Run.{Now}
 use Rattle.machine.specs.Compute as compute
 use Rattle.rule.specs.declared.rrule.Until.{Until}
 use Rattle.rule.specs.declared.rrule.Rule.{Rule}
-use Rattle.rule.specs.Instants.{instant}
 use Rattle.rule.specs.Periods.{in_range}
 use Rattle.rule.specs.Candidates.{kept}
 use Rattle.rule.specs.declared.rrule.Frequency.{Frequency}
@@ -34,7 +33,7 @@ use Rattle.rule.specs.Days.{day_passes}
 use Rattle.rule.specs.Moves as moves-day
 use Rattle.rule.specs.Moves.{fine, ticks, target, bounded, move}
 use Rattle.rule.specs.Records.{yielded, Sized}
-use Rattle.rule.specs.Run.{count_of, until_of, periods, run_of}
+use Rattle.rule.specs.Run.{until_of, periods, run_of}
 use Rattle.rule.proofs.Cursors.{number_fits}
 use Rattle.weeks.specs.declared.yearinfo.Year.{Year}
 use Rattle.clocks.specs.Clocks.{clock_in, sets_in}
@@ -68,8 +67,8 @@ use Rattle.opening.specs.Opening.{second_kept, days_by, period_by, chosen_by}
 use Rattle.opened.specs.Opened.{span_of, day_set_of, is_positioned, period_in, days_over, places_over, Sound, Opened}
 use Rattle.fitting.specs.Fitting.{is_fit}
 use Rattle.opened.proofs.Opened.{opened}
-use Rattle.opened.proofs.Yielded.{Good, good}
-use Rattle.opened.proofs.Spans.{Covers, covers_is, info_year, span_from_low, span_from_high, own_year}
+use Rattle.opened.proofs.Yielded.{good}
+use Rattle.opened.proofs.Spans.{covers_is, info_year, span_from_low, span_from_high, own_year}
 use Rattle.settling.specs.declared.rrule_iter.Settled.{Settled}
 use Rattle.settling.specs.Settling.{answer_of, held_of, moved_to, settled}
 use Rattle.listing.proofs.Entering.{cursor_refused, runs_on}

@@ -9,14 +9,14 @@ use lib.ListN.{length, set, drop, length-set}
 use lib.Dec.{eqb, ltb}
 use native.Mathlib.Omega.{arith}
 use native.Mathlib.Decide.{dec_lt, ℕ_discrete}
-use borrow.Author.Tests.{eqb-true, eqb-false, eq-eqb, ne_eqb}
+use borrow.Author.Tests.{eqb-true, eqb-false}
 use Rattle.machine.specs.declared.Cause.{Cause}
 use Rattle.machine.specs.declared.State.{State}
 use Rattle.machine.specs.declared.Stop.{Stop}
 use Rattle.machine.specs.declared.Answer.{Answer}
-use Rattle.machine.specs.Given.{above, reaches, Move, Move.To, Move.NoTick, Move.Range, Given}
+use Rattle.machine.specs.Given.{above, reaches, Move.To, Move.NoTick, Move.Range, Given}
 use Rattle.machine.specs.Cursors.{remaining}
-use Rattle.machine.specs.Run.{Now, Outcome}
+use Rattle.machine.specs.Run.{Now}
 use Rattle.machine.specs.Compute as compute
 use Rattle.machine.specs.Calls.{beside, answered}
 use Rattle.machine.proofs.RunLaws.{now, running, walk_full, walk_until, walk_pass, walk_count, walk_hand}

@@ -1,12 +1,12 @@
 -- What is read for an nth weekday is base 2's test.
 -- Assumes nothing.
-use Prim.Native.Nat.{ℕ, ◌+◌, ◌-◌, ◌≤◌, ◌<◌}
-use mathlib.Core.Path.{◌≡◌, refl}
+use Prim.Native.Nat.{ℕ, ◌+◌, ◌-◌}
+use mathlib.Core.Path.{◌≡◌}
 use mathlib.Core.Bool.{Bool, true, false}
 use mathlib.Core.List.{List}
 use native.Mathlib.Omega.{arith}
 use borrow.Author.Tests.{ltb-true}
-use Rattle.calendar.specs.Calendar.{days_of, MonthDay, table_day, from_end, weekday}
+use Rattle.calendar.specs.Calendar.{days_of, table_day, from_end, weekday}
 use Rattle.rule.specs.Days.{nth_passes}
 use Rattle.weeks.specs.declared.yearinfo.Year.{Year}
 use Rattle.nths.specs.Masks.{in_tables, year_day_at, year_length_at, nth_at}

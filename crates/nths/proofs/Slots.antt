@@ -2,16 +2,15 @@
 -- Assumes nothing.
 use Prim.Native.Nat.{ℕ, zero, suc, ◌+◌, ◌-◌, ◌*◌, ◌/◌, ◌≤◌, ◌<◌}
 use mathlib.Core.Path.{◌≡◌, refl, ap, ◌∙◌}
-use mathlib.Core.Bool.{Bool, true, false, ◌||◌}
+use mathlib.Core.Bool.{Bool, false, ◌||◌}
 use mathlib.Core.List.{List}
 use lib.ListN.{get_or}
-use lib.Dec.{leb}
-use lib.IntN.{ℤ, pos, negsuc, neg_ℤ}
+use lib.IntN.{pos, negsuc}
 use native.Mathlib.Omega.{arith}
 use borrow.Author.Tests.{le-leb}
 use Rattle.rule.specs.declared.rrule.Range.{Range}
 use Rattle.rule.specs.declared.rrule.Slot.{Slot}
-use Rattle.rule.specs.Lists.{zeros, slot_of, months, monthdays, yeardays, nths, weekdays, pair_slot, is_in, is_pair_in}
+use Rattle.rule.specs.Lists.{zeros, slot_of, months, nths, weekdays, pair_slot, is_in, is_pair_in}
 use Rattle.rule.specs.Days.{either_end, nth_passes}
 
 -- the slot of a value of a range, forward and from the end

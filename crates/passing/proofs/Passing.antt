@@ -5,9 +5,9 @@ use mathlib.Core.Path.{◌≡◌, refl, sym, ap, subst, ◌∙◌}
 use mathlib.Core.Bool.{Bool, true, false, not, ◌&&◌}
 use mathlib.Core.Logic.{⊎_elim}
 use mathlib.Core.List.{List}
-use lib.ListN.{length, get_or}
+use lib.ListN.{length}
 use lib.Dec.{eqb, ltb}
-use native.Mathlib.Nat.{div-mul-le_self, div-add-mod', suc-mul, add-mul, mul-le-mul_right}
+use native.Mathlib.Nat.{div-add-mod', suc-mul, add-mul, mul-le-mul_right}
 use native.Mathlib.Omega.{arith}
 use borrow.Author.Tests.{ltb-true, ltb-false, le-ltb, eqb-true, not-true}
 use Rattle.machine.specs.Given.{Bound, Bound.absent, Bound.present, above}
@@ -20,7 +20,7 @@ use Rattle.walks.specs.declared.rrule_iter.Bounds.{Bounds}
 use Rattle.walks.specs.declared.rrule_iter.Frame.{Frame}
 use Rattle.walks.specs.Walks.{bound_of, is_framed, second_on, second_at, walk_from, Timely}
 use Rattle.passing.specs.Passing.{is_passed, last_of, passable, held_at, passed_days}
-use Rattle.walks.proofs.SecondLaws.{within_days, next_day_lem, second_there}
+use Rattle.walks.proofs.SecondLaws.{next_day_lem, second_there}
 use Rattle.walks.proofs.WalkLaws.{rest_pass}
 
 -- what is not above UNTIL stays so further down

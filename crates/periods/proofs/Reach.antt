@@ -1,13 +1,12 @@
 -- What is told of a period: its counter where the start is in range and it begins in it.
 -- Assumes nothing.
 use Prim.Native.Nat.{ℕ}
-use mathlib.Core.Path.{◌≡◌, refl, sym, ◌∙◌}
+use mathlib.Core.Path.{◌≡◌, refl}
 use mathlib.Core.Bool.{Bool, true, false, ◌&&◌}
 use native.Mathlib.Omega.{arith}
 use lib.Dec.{leb}
 use borrow.Author.Tests.{le-leb}
 use Rattle.calendar.specs.Calendar.{if◌then◌else◌}
-use Rattle.rule.specs.declared.rrule.Rule.{Rule}
 use Rattle.rule.specs.Instants.{last_instant}
 use Rattle.rule.specs.Periods.{in_range}
 use Rattle.periods.specs.declared.counter_date.Counter.{Counter}

@@ -1,15 +1,13 @@
 -- The kept candidates, by their places.
 -- Assumes nothing.
-use Prim.Native.Nat.{ℕ, zero, suc, ◌+◌, ◌≤◌, ◌<◌}
+use Prim.Native.Nat.{ℕ, zero, suc, ◌+◌, ◌<◌}
 use mathlib.Core.Path.{◌≡◌, refl, ap, sym, ◌∙◌}
 use mathlib.Core.Bool.{Bool, true, false}
 use mathlib.Core.List.{List, [], ◌∷◌, ◌++◌, map}
 use native.Mathlib.Omega.{arith}
-use native.Mathlib.Numerals.{add-one}
 use lib.ListN.{length, get_or, length-map}
-use Rattle.rule.specs.Lists.{is_empty}
 use Rattle.rule.specs.Candidates.{only, chooses, chosen, candidates, keeps, kept}
-use Rattle.positions.specs.Places.{up_from, kept_places, over}
+use Rattle.positions.specs.Places.{up_from, kept_places}
 use Rattle.positions.specs.Claims.{places_of, KeptByPlaces, KeptCount, KeptNumber, KeptWithoutPositions, PlacesStand, KeptFromSlots}
 use Rattle.positions.proofs.Buffers.{over_reads}
 use Rattle.positions.proofs.PlaceLaws.{places_fit}

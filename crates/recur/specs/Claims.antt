@@ -8,7 +8,7 @@ use Rattle.rule.specs.Instants.{last_instant}
 use Rattle.rule.specs.Raw.{RawLists, Raw}
 use Rattle.rule.specs.Refusals.{verdict}
 use Rattle.recur.specs.Grammar.{Good, Begins}
-use Rattle.recur.specs.Reading.{Read, rule, refused, longest, read_of}
+use Rattle.recur.specs.Reading.{rule, refused, longest, read_of}
 use Rattle.recur.specs.Writing.{text_of}
 
 -- A text that isn't too long is read as a rule exactly where it is a good text of that rule.

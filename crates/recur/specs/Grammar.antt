@@ -1,13 +1,13 @@
 -- The texts of rules: the RECUR value of RFC 5545, section 3.3.10, in the words of request 2026-04. A text is a list of bytes.
 -- Assumes nothing.
-use Rattle.std.specs.Prelude.{ℕ, zero, suc, ◌+◌, ◌-◌, ◌*◌, ◌≤◌, ◌≡◌, Bool, true, false, ◌||◌, List, [], ◌∷◌, ◌++◌, map, set, get_or, eqb, ℤ, pos, negsuc}
+use Rattle.std.specs.Prelude.{ℕ, zero, suc, ◌+◌, ◌*◌, ◌≡◌, Bool, true, false, ◌||◌, List, [], ◌∷◌, ◌++◌, map, set, get_or, eqb, ℤ, pos, negsuc}
 use Rattle.calendar.specs.Calendar.{if◌then◌else◌, leap, month_length, day_of_date}
 use Rattle.rule.specs.declared.rrule.Count.{Count}
 use Rattle.rule.specs.declared.rrule.Until.{Until}
 use Rattle.rule.specs.Instants.{instant}
 use Rattle.rule.specs.Raw.{Raw, raw, raw_lists}
 use Rattle.symbols.specs.Bytes.{bytes}
-use Rattle.symbols.specs.Languages.{Byte, Spelled, Both, both, Followed, Perhaps, Turned, Joined}
+use Rattle.symbols.specs.Languages.{Byte, Spelled, Both, Followed, Perhaps, Turned, Joined}
 use Rattle.symbols.specs.Counts.{Number, Three, Field}
 
 -- ---- the words, in capitals; a part's name with its `=`

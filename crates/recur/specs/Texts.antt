@@ -1,12 +1,11 @@
 -- Texts with their answers: those of the request's page, its traps, and each way of writing.
 -- Assumes nothing.
-use Rattle.std.specs.Prelude.{ℕ, zero, suc, List, [], ◌∷◌, ◌++◌, map, ℤ, pos, negsuc}
+use Rattle.std.specs.Prelude.{ℕ, zero, suc, List, [], ◌∷◌, ◌++◌, ℤ, pos, negsuc}
 use Prim.Native.String.{String}
 use Rattle.rule.specs.declared.rrule.Count.{Count}
 use Rattle.rule.specs.declared.rrule.Until.{Until}
 use Rattle.rule.specs.Raw.{RawLists, Raw, raw, raw_lists}
 use Rattle.symbols.specs.Bytes.{bytes}
-use Rattle.recur.specs.Reading.{Read, rule, refused}
 
 -- a text, and the place where it is refused
 pub record Place : Type 0 where

@@ -1,8 +1,8 @@
 -- What 20 refuses, and that a good record's fresh cursor is running; good cursors stay good, their number fits, and the run has one answer in both
 -- its forms.
 -- Assumes nothing.
-use Prim.Native.Nat.{ℕ, zero, suc, ◌+◌, ◌-◌, ◌*◌, ◌≤◌, ◌<◌}
-use mathlib.Core.Path.{◌≡◌, refl, sym, ◌∙◌, ap, subst}
+use Prim.Native.Nat.{ℕ, zero, suc, ◌+◌, ◌-◌, ◌*◌, ◌≤◌}
+use mathlib.Core.Path.{◌≡◌, refl, sym, ◌∙◌, ap}
 use mathlib.Core.Logic.{⊎_elim}
 use mathlib.Core.Bool.{Bool, true, false, or-true}
 use mathlib.Core.List.{List, [], ◌∷◌}
@@ -16,8 +16,7 @@ use Rattle.machine.specs.declared.State.{State}
 use Rattle.machine.specs.declared.Cursor.{Cursor}
 use Rattle.machine.specs.Rising.{Rises}
 use Rattle.machine.specs.Given.{Move, Move.To, Move.Range}
-use Rattle.machine.specs.Cursors.{WellFormed, next}
-use Rattle.machine.specs.Run.{Call}
+use Rattle.machine.specs.Cursors.{WellFormed}
 use Rattle.machine.specs.Calls.{chain}
 use Rattle.machine.specs.Claims.{Lawful}
 use Rattle.machine.proofs.Theorems.{answers, ended_returns, accepted, fresh_well_formed, stays_well_formed}
@@ -30,7 +29,6 @@ use Rattle.rule.specs.Refusals.{count_nought}
 use Rattle.rule.specs.Records.{as_raw, yielded}
 use Rattle.rule.specs.Periods.{period, in_range}
 use Rattle.rule.specs.Candidates.{kept}
-use Rattle.rule.specs.Moves.{fine, move}
 use Rattle.rule.specs.Run.{periods, fresh_of}
 use Rattle.rule.specs.Demand.{told_by, RowsRefused, ZeroRefused, BothRefused, FreshRuns, CountNotAtOnce, IntervalStays}
 use Rattle.rule.specs.Demand.{FreshIsGood, CursorsStayGood, NumberFits, MovesAreSteps, TwoForms}

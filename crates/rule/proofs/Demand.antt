@@ -1,17 +1,16 @@
 -- Demand 3, from the machine's theorem and the laws of the rule's own periods.
 -- Assumes nothing.
-use Prim.Native.Nat.{ℕ, zero, suc, ◌+◌, ◌-◌, ◌*◌, ◌≤◌, ◌<◌}
+use Prim.Native.Nat.{ℕ, suc, ◌-◌, ◌*◌, ◌≤◌, ◌<◌}
 use mathlib.Core.Path.{◌≡◌, refl, sym, ◌∙◌, ap, subst}
-use mathlib.Core.Logic.{◌⊎◌, inl, inr, ⊎_elim}
+use mathlib.Core.Logic.{inl, inr, ⊎_elim}
 use mathlib.Core.Bool.{Bool, true, false, ◌&&◌}
 use mathlib.Core.List.{List, [], ◌∷◌, map}
 use native.Mathlib.Omega.{arith}
 use lib.ListN.{length}
-use lib.Dec.{ltb}
-use borrow.Author.Tests.{lt-ltb, ltb-true, ltb-false}
+use borrow.Author.Tests.{lt-ltb}
 use Rattle.machine.specs.declared.Cause.{Cause}
 use Rattle.machine.specs.Rising.{◌∈◌, Rises}
-use Rattle.machine.specs.Given.{Bound, Bound.absent, Bound.present, AtMost}
+use Rattle.machine.specs.Given.{Bound.present, AtMost}
 use Rattle.machine.specs.Given.{Satisfies as SecondSatisfies}
 use Rattle.machine.specs.Run.{Call}
 use Rattle.machine.specs.Promises.{All, Says}
@@ -26,16 +25,16 @@ use Rattle.rule.specs.Refusals.{verdict}
 use Rattle.rule.specs.Filling.{given, fill, answers, checked}
 use Rattle.rule.specs.Records.{as_raw, yielded}
 use Rattle.rule.specs.Periods.{period, in_range}
-use Rattle.rule.specs.Candidates.{Kept, kept}
+use Rattle.rule.specs.Candidates.{Kept}
 use Rattle.rule.specs.Satisfies.{NotAfter, Satisfies}
 use Rattle.rule.specs.Run.{count_of, until_of, periods, fresh_of}
 use Rattle.rule.specs.Meaning.{RisesFrom}
-use Rattle.rule.specs.Demand.{call_of, told_by, Handed, EndedBy, Lists, GoodRecordsList, DemandThree, IntervalFollows, DemandThreeBefore, NeverByInterval}
+use Rattle.rule.specs.Demand.{told_by, Handed, EndedBy, Lists, GoodRecordsList, DemandThree, IntervalFollows, DemandThreeBefore, NeverByInterval}
 use Rattle.rule.proofs.CheckLaws.{start_in_range, wkst_in_range, interval_above}
 use Rattle.rule.proofs.Chosen.{kept_are}
 use Rattle.rule.proofs.GoodRecords.{good_records}
 use Rattle.rule.proofs.RefusalLaws.{accepting}
-use Rattle.rule.proofs.SoundPeriods.{kept_candidate, in_range_lem, ends, sound}
+use Rattle.rule.proofs.SoundPeriods.{kept_candidate, ends, sound}
 
 -- what is known of a good record
 both_left : (a b : Bool) → a && b ≡ true → a ≡ true

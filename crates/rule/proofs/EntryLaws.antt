@@ -11,11 +11,11 @@ use lib.ListN.{length, get_or, drop, drop_of_length-le, length-set}
 use lib.Seq.{drop-cons}
 use lib.IntN.{ℤ, pos, negsuc, ◌+ℤ◌}
 use lib.Signed.{mag, lt_z}
-use borrow.Author.Tests.{leb-true, lt-ltb, le-ltb, eq-eqb, ne_eqb, le-leb, lt-leb, ltb-true, ltb-false}
+use borrow.Author.Tests.{leb-true, lt-ltb, le-ltb, ne_eqb, ltb-true, ltb-false}
 use Rattle.calendar.specs.Calendar.{if◌then◌else◌}
 use Rattle.rule.specs.declared.rrule.Range.{Range}
 use Rattle.rule.specs.declared.rrule.Slot.{Slot}
-use Rattle.rule.specs.Lists.{within, zeros, slot_of, nths, weekdays, beside, pair_slot, is_empty, mark}
+use Rattle.rule.specs.Lists.{within, zeros, slot_of, nths, weekdays, pair_slot, is_empty, mark}
 use Rattle.rule.specs.Entries.{shift, Moved, slot_at, pair_at, pair_below_at, marks}
 use Rattle.rule.specs.Raw.{entries, pairs}
 use Rattle.rule.specs.Refusals.{some, is_zero, rises, rises_from, pair_below, pairs_rise, pairs_rise_from}

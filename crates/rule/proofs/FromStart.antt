@@ -12,7 +12,7 @@ use Rattle.rule.specs.declared.rrule.Frequency.{Frequency}
 use Rattle.rule.specs.declared.rrule.Rule.{Rule}
 use Rattle.rule.specs.Instants.{second, range_end, day_of}
 use Rattle.rule.specs.Days.{week_of}
-use Rattle.rule.specs.Periods.{Period, of_days, week, month, period_after, period}
+use Rattle.rule.specs.Periods.{Period, of_days, month, period_after, period}
 use Rattle.rule.specs.Candidates.{candidates_of, candidates, Chosen.all}
 use Rattle.rule.specs.Satisfies.{Satisfies}
 use Rattle.rule.specs.FromStart.{period_after_from_start, period_from_start, candidates_from_start, SatisfiesFromStart}

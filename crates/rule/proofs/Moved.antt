@@ -3,11 +3,10 @@
 use Prim.Native.Nat.{ℕ, zero, suc, ◌+◌, ◌-◌, ◌*◌, ◌/◌, ◌%◌, ◌≤◌, ◌<◌}
 use mathlib.Core.Path.{◌≡◌, refl, sym, ap, subst, subst⁻¹, ◌∙◌}
 use mathlib.Core.Logic.{◌⊎◌, inl, inr, ⊎_elim}
-use mathlib.Core.Bool.{Bool, true, false, not}
-use lib.Dec.{T, ltb}
+use mathlib.Core.Bool.{Bool, true, false}
+use lib.Dec.{T}
 use native.Mathlib.Nat.{add-mul, mul-le-mul_left, div-lt_iff_lt-mul, div-add-mod', mod-lt}
 use native.Mathlib.Omega.{arith}
-use borrow.Author.Tests.{ltb-true, ltb-false}
 use Rattle.rule.specs.declared.rrule.Frequency.{Frequency}
 use Rattle.rule.specs.declared.rrule.Rule.{Rule}
 use Rattle.calendar.specs.Calendar.{if◌then◌else◌}
@@ -19,7 +18,6 @@ use Rattle.rule.specs.Times.{time_passes, tick_passes}
 use Rattle.rule.specs.Periods.{period_after, period, in_range}
 use Rattle.rule.specs.Moves.{day_in, tick_in, fine, Lands, Least, Next, Moves, Moves.moves, Moves.no_tick, Moves.range, ticks, next_day, first_from, target, bounded, move}
 use Rattle.rule.specs.Meaning.{MovesByOne, MoveIs}
-use Rattle.rule.proofs.Members.{yes}
 use Rattle.rule.proofs.Order.{below_or}
 
 pub not_both : (b : Bool) → b ≡ true → b ≡ false → ⊥

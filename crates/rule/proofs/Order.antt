@@ -1,22 +1,19 @@
 -- Periods: all of period j lies before all of period k where j is below k; period 0 holds the start; there are no gaps.
 -- Assumes nothing.
-use Prim.Native.Nat.{ℕ, zero, suc, ◌+◌, ◌-◌, ◌*◌, ◌/◌, ◌%◌, min, ◌≤◌, ◌<◌}
-use mathlib.Core.Path.{◌≡◌, refl, sym, ◌∙◌, ap, subst}
+use Prim.Native.Nat.{ℕ, zero, suc, ◌+◌, ◌-◌, ◌*◌, ◌/◌, ◌%◌, ◌≤◌, ◌<◌}
+use mathlib.Core.Path.{◌≡◌, sym, ◌∙◌, ap, subst}
 use mathlib.Core.Logic.{◌⊎◌, inl, inr, ⊎_elim}
-use mathlib.Core.Bool.{Bool, true, false}
 use native.Mathlib.Nat.{add-mul, mul-le-mul_right}
 use native.Mathlib.Numerals.{add-one}
 use native.Mathlib.Decide.{dec_lt}
 use native.Mathlib.Omega.{arith}
-use lib.Dec.{ltb}
 use borrow.Author.Tests.{ltb-true}
 use Rattle.calendar.specs.Calendar.{leap, new_year, month_length, days_before_month, first_of, day_of_date, year_of, date_of}
 use Rattle.calendar.proofs.Years.{years_rise, year_of_is}
 use Rattle.calendar.proofs.Months.{months_follow, december_ends}
 use Rattle.calendar.proofs.Dates.{date_is, day_of_its_date}
 use Rattle.rule.specs.declared.rrule.Frequency.{Frequency}
-use Rattle.rule.specs.declared.rrule.Rule.{Rule}
-use Rattle.rule.specs.Instants.{second, last_instant, range_end, day_of}
+use Rattle.rule.specs.Instants.{second, range_end, day_of}
 use Rattle.rule.specs.Days.{week_of}
 use Rattle.rule.specs.Periods.{month, period_after, period, in_range}
 use Rattle.rule.specs.Meaning.{PeriodsInOrder, StartInPeriod, WholeWeek, PeriodsMeet, Within, PeriodHolds, OnePeriod}

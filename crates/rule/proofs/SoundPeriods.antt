@@ -1,13 +1,12 @@
 -- The rule's own periods and moves obey the laws that the machine asks of a calendar.
 -- Assumes nothing.
-use Prim.Native.Nat.{ℕ, suc, ◌+◌, ◌-◌, ◌*◌, ◌/◌, ◌%◌, min, ◌≤◌, ◌<◌}
-use mathlib.Core.Path.{◌≡◌, refl, ◌∙◌, ap, subst, subst⁻¹}
+use Prim.Native.Nat.{ℕ, suc, ◌+◌, ◌*◌, ◌≤◌, ◌<◌}
+use mathlib.Core.Path.{◌≡◌, refl, subst}
 use mathlib.Core.Logic.{◌⊎◌, inl, inr, ⊎_elim}
 use mathlib.Core.Bool.{Bool, true, false}
 use mathlib.Core.List.{List, [], ◌∷◌}
 use native.Mathlib.Omega.{arith}
-use lib.Dec.{ltb}
-use borrow.Author.Tests.{ltb-true, ltb-false, lt-ltb}
+use borrow.Author.Tests.{ltb-true, lt-ltb}
 use Rattle.calendar.specs.Calendar.{new_year, days_before_month, first_of, year_of}
 use Rattle.calendar.proofs.Years.{years_rise, years_grow, year_of_is}
 use Rattle.machine.specs.Rising.{◌∈◌, Rises}
@@ -17,11 +16,11 @@ use Rattle.rule.specs.declared.rrule.Frequency.{Frequency}
 use Rattle.rule.specs.declared.rrule.Rule.{Rule}
 use Rattle.rule.specs.Instants.{second, last_instant, range_end, day_of}
 use Rattle.rule.specs.Periods.{month, period_after, period, in_range}
-use Rattle.rule.specs.Candidates.{Candidate, candidates, Kept, kept, keeps, chosen}
-use Rattle.rule.specs.Moves.{fine, Lands, Least, Next, Moves, Moves.moves, Moves.no_tick, Moves.range, move}
+use Rattle.rule.specs.Candidates.{Candidate, candidates, Kept, kept}
+use Rattle.rule.specs.Moves.{fine, Next, Moves, Moves.moves, Moves.no_tick, Moves.range, move}
 use Rattle.rule.specs.Run.{periods}
 use Rattle.rule.specs.Meaning.{RisesFrom}
-use Rattle.rule.proofs.Members.{in_list, member}
+use Rattle.rule.proofs.Members.{in_list}
 use Rattle.rule.proofs.Listed.{candidates_are}
 use Rattle.rule.proofs.Chosen.{there, kept_are}
 use Rattle.rule.proofs.Order.{below_or, first, month_next, months_rise, month_in, month_low, day_times, start_in_period, periods_in_order}

@@ -1,6 +1,6 @@
 -- How a chart is written and played: a rule, the calls made of it in turn, and what each call is to answer, whole. All numbers are literal.
 -- Assumes nothing.
-use Rattle.std.specs.Prelude.{ℕ, zero, suc, ◌+◌, ◌-◌, List, [], ◌∷◌, ◌++◌, true, false, eqb, ℤ, pos, neg_ℤ, nat_abs}
+use Rattle.std.specs.Prelude.{ℕ, zero, suc, ◌-◌, List, [], ◌∷◌, ◌++◌, true, false, eqb, ℤ, pos, neg_ℤ, nat_abs}
 use Rattle.machine.specs.declared.Cause.{Cause}
 use Rattle.machine.specs.declared.State.{State}
 use Rattle.machine.specs.declared.Stop.{Stop}
@@ -13,7 +13,7 @@ use Rattle.rule.specs.declared.rrule.Verdict.{Verdict}
 use Rattle.rule.specs.declared.rrule.Checked.{Checked}
 use Rattle.rule.specs.declared.rrule.Rule.{Rule}
 use Rattle.rule.specs.Raw.{Raw, raw, raw_lists}
-use Rattle.rule.specs.Filling.{blank, checked}
+use Rattle.rule.specs.Filling.{checked}
 use Rattle.rule.specs.Run.{fresh_of, run_of}
 
 -- A part of a rule, by a number for its name. A list that is not given is empty, COUNT and UNTIL are absent, INTERVAL is 1 and the week starts on Monday.

@@ -9,10 +9,9 @@ use lib.Dec.{ltb}
 use borrow.Author.Tests.{lt-ltb, le-ltb}
 use Rattle.calendar.specs.Calendar.{new_year, year_of}
 use Rattle.rule.specs.declared.rrule.Frequency.{Frequency}
-use Rattle.rule.specs.declared.rrule.Rule.{Rule}
 use Rattle.rule.specs.Instants.{second, range_end, day_of}
 use Rattle.rule.specs.Days.{week_of}
-use Rattle.rule.specs.Periods.{week, month, period_after, period, in_range}
+use Rattle.rule.specs.Periods.{week, month, period_after, period}
 use Rattle.rule.specs.Moves.{ticks}
 use Rattle.rule.proofs.Order.{first, month_in}
 use Rattle.periods.specs.Counters.{number_of, step_of, counter_at, limit_of}

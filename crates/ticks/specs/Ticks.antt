@@ -5,7 +5,6 @@ use Rattle.calendar.specs.Calendar.{if◌then◌else◌}
 use Rattle.machine.specs.Given.{Move, Move.To, Move.NoTick, Move.Range}
 use Rattle.rule.specs.declared.rrule.Frequency.{Frequency}
 use Rattle.rule.specs.Moves.{ticks, first_from}
-use Rattle.ticks.specs.declared.counter_date.Hit.{Hit}
 use Rattle.ticks.specs.declared.counter_date.Found.{Found}
 
 -- Whether a tick of the day passes: its hour, and its minute and second as far as the frequency fixes them, have their flags.

@@ -13,7 +13,7 @@ use Rattle.machine.specs.declared.Cursor.{Cursor}
 use Rattle.machine.specs.Given.{Bound, Given, above, reaches}
 use Rattle.machine.specs.Cursors.{end_by, pass, hand_out}
 use Rattle.machine.specs.Run.{Deed, Deed.leaves, Deed.hands, Deed.moves, counted, at_candidate, Now, does, full}
-use Rattle.machine.specs.Compute.{Walked, Walked.stopped, Walked.through, outcome, proceed, walk}
+use Rattle.machine.specs.Compute.{Walked, Walked.stopped, outcome, proceed, walk}
 use Rattle.rule.specs.Instants.{instant}
 use Rattle.rule.specs.Run.{count_of}
 use Rattle.walks.specs.declared.rrule_iter.Bounds.{Bounds}

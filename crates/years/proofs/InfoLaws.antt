@@ -10,7 +10,6 @@ use Rattle.weeks.specs.declared.yearinfo.Year.{Year}
 use Rattle.weeks.specs.Weeks.{year_info, week_mask}
 use Rattle.nths.specs.Masks.{nth_mask}
 use Rattle.years.specs.declared.lists.Asked.{Asked}
-use Rattle.years.specs.declared.iterinfo.IterInfo.{IterInfo}
 use Rattle.years.specs.Info.{no_table, no_mask, table_where, mask_where, asks_more, info_by, info_of}
 
 -- what is not asked for is blank, and what is asked for is made

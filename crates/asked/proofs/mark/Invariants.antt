@@ -1,6 +1,6 @@
 -- `asked::mark` is safe and ends.
 -- Assumes nothing.
-use Rattle.std.proofs.Common.{◌≡◌, ◌-◌, ◌≤◌, length, rules}
+use Rattle.std.proofs.Common.{◌≡◌, ◌-◌, ◌≤◌, length}
 use Rattle.asked.proofs.mark.Given as goal
 
 abbrev pub invariant-loop-i : goal.invariant-loop-i

@@ -1,6 +1,6 @@
 -- `forms::spell_word` is safe and ends.
 -- Assumes nothing.
-use Rattle.std.proofs.Common.{◌≡◌, ◌-◌, ◌≤◌, length, rules}
+use Rattle.std.proofs.Common.{◌≡◌, ◌-◌, ◌≤◌, length}
 use Rattle.forms.proofs.spell_word.Given as goal
 
 abbrev pub invariant-loop-i : goal.invariant-loop-i

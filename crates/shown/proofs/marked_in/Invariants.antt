@@ -1,6 +1,6 @@
 -- `shown::marked_in` is safe and ends.
 -- Assumes nothing.
-use Rattle.std.proofs.Common.{◌-◌, ◌≤◌, length, rules}
+use Rattle.std.proofs.Common.{◌-◌, ◌≤◌, length}
 use Rattle.shown.proofs.marked_in.Given as goal
 
 abbrev pub invariant-loop-i : goal.invariant-loop-i

@@ -1,6 +1,6 @@
 -- `shown::write_sets` is safe and ends.
 -- Assumes nothing.
-use Rattle.std.proofs.Common.{◌≡◌, ◌-◌, ◌≤◌, max, length, rules}
+use Rattle.std.proofs.Common.{◌≡◌, ◌-◌, ◌≤◌, max, length}
 use Rattle.shown.proofs.write_sets.Given as goal
 
 abbrev pub invariant-loop-which : goal.invariant-loop-which

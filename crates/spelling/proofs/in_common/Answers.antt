@@ -1,11 +1,8 @@
 -- `spelling::in_common` meets its contract: what word and text have in common is what is counted, with what their rests have in common.
 -- Assumes nothing.
-use Prim.Native.Nat.{◌+◌, ◌-◌, ◌≤◌}
-use mathlib.Core.Path.{◌≡◌, sym, ◌∙◌}
+use mathlib.Core.Path.{sym, ◌∙◌}
 use native.Mathlib.Omega.{arith}
-use lib.ListN.{length, drop}
-use Rattle.symbols.specs.Readers.{common}
-use Rattle.spelling.proofs.CommonLaws.{counted, counted_none, counted_on, counted_word, counted_text, counted_differ}
+use Rattle.spelling.proofs.CommonLaws.{counted_none, counted_on, counted_word, counted_text, counted_differ}
 use Rattle.spelling.proofs.in_common.Goals as goal
 
 pub loop-count-init : goal.loop-count-init

@@ -1,11 +1,10 @@
 -- `spelling::in_common` meets its contract: what word and text have in common is what is counted, with what their rests have in common.
 -- Assumes nothing.
 use Prim.Native.Nat.{◌+◌, ◌-◌, ◌≤◌}
-use mathlib.Core.Path.{◌≡◌, sym, ◌∙◌}
-use native.Mathlib.Omega.{arith}
+use mathlib.Core.Path.{◌≡◌}
 use lib.ListN.{length, drop}
 use Rattle.symbols.specs.Readers.{common}
-use Rattle.spelling.proofs.CommonLaws.{counted, counted_none, counted_on, counted_word, counted_text, counted_differ}
+use Rattle.spelling.proofs.CommonLaws.{counted}
 use Rattle.spelling.proofs.in_common.Given as goal
 
 abbrev pub invariant-loop-count : goal.invariant-loop-count

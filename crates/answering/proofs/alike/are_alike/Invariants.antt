@@ -1,6 +1,6 @@
 -- `answering::alike::are_alike` is safe and ends.
 -- Assumes nothing.
-use Rattle.std.proofs.Common.{◌-◌, ◌≤◌, rules}
+use Rattle.std.proofs.Common.{◌-◌, ◌≤◌}
 use Rattle.answering.proofs.alike.are_alike.Given as goal
 
 abbrev pub invariant-loop-both : goal.invariant-loop-both

@@ -1,6 +1,6 @@
 -- `answering::chain::fill` is safe and ends.
 -- Assumes nothing.
-use Rattle.std.proofs.Common.{◌≡◌, ◌-◌, ◌≤◌, length, rules}
+use Rattle.std.proofs.Common.{◌≡◌, ◌-◌, ◌≤◌, length}
 use Rattle.answering.proofs.chain.fill.Given as goal
 
 abbrev pub invariant-loop-i : goal.invariant-loop-i

@@ -1,6 +1,6 @@
 -- `answering::chain::is_kept` is safe and ends.
 -- Assumes nothing.
-use Rattle.std.proofs.Common.{◌-◌, ◌≤◌, length, rules}
+use Rattle.std.proofs.Common.{◌-◌, ◌≤◌, length}
 use Rattle.answering.proofs.chain.is_kept.Given as goal
 
 abbrev pub invariant-loop-i : goal.invariant-loop-i

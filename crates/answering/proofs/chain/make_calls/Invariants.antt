@@ -1,6 +1,6 @@
 -- `answering::chain::make_calls` is safe and ends.
 -- Assumes nothing.
-use Rattle.std.proofs.Common.{◌≡◌, ◌-◌, ◌≤◌, length, rules}
+use Rattle.std.proofs.Common.{◌≡◌, ◌-◌, ◌≤◌, length}
 use Rattle.answering.proofs.chain.make_calls.Given as goal
 
 abbrev pub invariant-loop-turn : goal.invariant-loop-turn

@@ -1,6 +1,6 @@
 -- `answering::input::read_all` is safe and ends.
 -- Assumes nothing.
-use Rattle.std.proofs.Common.{◌≡◌, ◌-◌, ◌≤◌, length, rules}
+use Rattle.std.proofs.Common.{◌≡◌, ◌-◌, ◌≤◌, length}
 use Rattle.answering.proofs.input.read_all.Given as goal
 
 abbrev pub invariant-loop : goal.invariant-loop

@@ -1,13 +1,7 @@
 -- `basics::lists::is_empty` meets its contract: the set is empty where no flag was found, and none is left.
 -- Assumes nothing.
 use Rattle.std.proofs.Common.{rules}
-use mathlib.Core.Path.{◌≡◌, refl, sym, ◌∙◌, ap}
-use mathlib.Core.Bool.{not, ◌&&◌}
-use Prim.Native.Nat.{◌≤◌, ◌+◌, ◌-◌}
-use native.Mathlib.Omega.{arith}
-use lib.IntN.{pos}
-use lib.ListN.{length, get_or, drop}
-use Rattle.rule.specs.Lists.{is_empty}
+use mathlib.Core.Path.{refl, sym, ◌∙◌}
 use Rattle.rule.proofs.EntryLaws.{empty_next, empty_done}
 use Rattle.basics.proofs.lists.is_empty.Goals as goal
 

@@ -1,10 +1,9 @@
 -- `chosen::rrule_iter::walk_places` meets its contract. The loop's invariant: what is left of the walk gives what the whole gives.
 -- Assumes nothing.
 use Rattle.std.proofs.Common.{rules}
-use Prim.Native.Nat.{ℕ, ◌+◌, ◌*◌, ◌-◌, ◌≤◌, ◌<◌, ◌^◌}
+use Prim.Native.Nat.{◌+◌, ◌*◌, ◌≤◌, ◌<◌, ◌^◌}
 use mathlib.Core.Path.{◌≡◌, refl, sym, ap, ◌∙◌}
 use mathlib.Core.Bool.{true, false}
-use mathlib.Core.List.{List}
 use lib.ListN.{length, length-set}
 use lib.Dec.{leb}
 use native.Mathlib.Omega.{arith}

@@ -1,13 +1,13 @@
 -- `clocks::iterinfo::collect` meets its contract: past i flags the list holds the values of those that were set.
 -- Assumes nothing.
 use Rattle.std.proofs.Common.{rules}
-use Prim.Native.Nat.{ℕ, ◌-◌, ◌≤◌}
+use Prim.Native.Nat.{ℕ}
 use mathlib.Core.Path.{◌≡◌, refl, ◌∙◌, ap}
 use native.Mathlib.Omega.{arith}
 use lib.ListN.{length, length-set}
 use borrow.Author.Tests.{not-true, not-false}
 use Rattle.clocks.specs.Clocks.{written, flagged}
-use Rattle.clocks.proofs.Rows.{Past, past_none, past_skip, past_take}
+use Rattle.clocks.proofs.Rows.{past_none, past_skip, past_take}
 use Rattle.clocks.proofs.iterinfo.collect.Goals as goal
 
 pub loop-i-init : goal.loop-i-init

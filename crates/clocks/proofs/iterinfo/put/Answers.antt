@@ -1,11 +1,10 @@
 -- `clocks::iterinfo::put` meets its contract: the row holds so much of the set as was passed.
 -- Assumes nothing.
 use Rattle.std.proofs.Common.{rules}
-use Prim.Native.Nat.{◌-◌, ◌+◌, ◌≤◌}
-use mathlib.Core.Path.{◌≡◌, refl, ◌∙◌, ap}
+use Prim.Native.Nat.{◌+◌}
+use mathlib.Core.Path.{refl, ◌∙◌, ap}
 use mathlib.Core.Bool.{Bool, false, ◌||◌}
-use lib.ListN.{length, get_or, set, take, length-set}
-use Rattle.clocks.specs.Clocks.{written, or_all}
+use lib.ListN.{get_or, set, length-set}
 use Rattle.clocks.proofs.Rows.{put_none, put_next, put_all}
 use Rattle.clocks.proofs.iterinfo.put.Goals as goal
 

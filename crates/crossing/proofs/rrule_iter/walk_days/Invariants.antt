@@ -1,25 +1,12 @@
 -- `crossing::rrule_iter::walk_days` meets its contract. Each loop's invariant: what is left of the walk gives what the whole gives.
 -- Assumes nothing.
-use Rattle.std.proofs.Common.{rules}
-use Prim.Native.Nat.{ℕ, ◌+◌, ◌*◌, ◌-◌, ◌≤◌, ◌<◌, ◌^◌}
-use mathlib.Core.Path.{◌≡◌, refl, sym, ap, ◌∙◌}
-use mathlib.Core.Bool.{true, false}
+use Prim.Native.Nat.{ℕ, ◌+◌, ◌*◌, ◌-◌, ◌≤◌, ◌<◌}
+use mathlib.Core.Path.{◌≡◌}
 use mathlib.Core.List.{List}
-use lib.ListN.{length, length-set}
-use native.Mathlib.Nat.{div-mul-le_self}
-use native.Mathlib.Omega.{arith}
-use borrow.Author.Tests.{not-true, not-false}
-use Rattle.machine.specs.Given.{above}
+use lib.ListN.{length}
 use Rattle.walks.specs.declared.rrule_iter.Why.{Why}
 use Rattle.walks.specs.declared.rrule_iter.Held.{Held}
-use Rattle.walks.specs.Walks.{bound_of, second_at, walk_from}
-use Rattle.walks.proofs.SecondLaws.{time_left, days_and_left, next_day_lem, within_days, past_days, no_times, in_a_year, second_there}
-use Rattle.walks.proofs.WalkLaws.{stops, rest_over, rest_pass}
-use Rattle.walks.proofs.Walkable.{Small}
-use Rattle.passing.specs.Passing.{Ready}
-use Rattle.crossing.specs.Crossing.{is_walkable, days_walk}
-use Rattle.crossing.proofs.RestLaws.{rest_full, rest_until, rest_count, rest_hand}
-use Rattle.crossing.proofs.Walkable.{walkable_by, walkable_told, days_walked, days_left}
+use Rattle.walks.specs.Walks.{second_at, walk_from}
 use Rattle.crossing.proofs.rrule_iter.walk_days.Given as goal
 
 -- as many numbered as handed out since, room for what is handed out, and the cursor's state as it was

@@ -7,7 +7,7 @@ use native.Mathlib.Omega.{arith}
 use native.Mathlib.Decide.{dec_le}
 use lib.ListN.{take}
 use lib.Seq.{take_all}
-use Rattle.calendar.specs.Calendar.{if◌then◌else◌, month_lengths, total, days_before_month}
+use Rattle.calendar.specs.Calendar.{month_lengths, total, days_before_month}
 use Rattle.calendar.proofs.Table.{tab_at}
 use Rattle.dates.proofs.masks.days_before_month.Goals as goal
 

@@ -2,7 +2,6 @@
 -- Assumes nothing.
 use Rattle.std.proofs.Common.{rules}
 use mathlib.Core.Bool.{true, false}
-use mathlib.Core.Path.{ap}
 use Prim.Native.Nat.{ℕ}
 use Rattle.calendar.specs.Calendar.{table_day}
 use Rattle.calendar.proofs.Table.{tab_at}

@@ -1,6 +1,5 @@
 -- `dates::masks::month_day_table` meets its contract: each table is what the calendar says, by one computed test.
 -- Assumes nothing.
-use mathlib.Core.Path.{refl, ◌∙◌}
 use Rattle.calendar.specs.Calendar.{year_table}
 use Rattle.dates.proofs.masks.month_day_table.Goals as goal
 

@@ -1,6 +1,5 @@
 -- `dates::utils::date_from_ordinal` meets its contract: the tables' row of the day's place in its year is the day's month, day and month length.
 -- Assumes nothing.
-use mathlib.Core.Path.{sym, ◌∙◌}
 use native.Mathlib.Omega.{arith}
 use Rattle.calendar.proofs.Years.{year_of_is}
 use Rattle.dates.proofs.TableDates.{TableDate, table_date}

@@ -2,7 +2,6 @@
 -- Assumes nothing.
 use Rattle.std.proofs.Common.{rules}
 use mathlib.Core.Path.{refl, sym}
-use native.Mathlib.Omega.{arith}
 use Rattle.rule.specs.Lists.{monthdays}
 use Rattle.plain.proofs.SlotsPast.{none_at_nought, none_above}
 use Rattle.days.proofs.FilterLaws.{day_slot}

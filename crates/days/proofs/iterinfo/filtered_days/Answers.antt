@@ -11,7 +11,7 @@ use Rattle.years.specs.declared.iterinfo.IterInfo.{IterInfo}
 use Rattle.years.specs.Info.{info_by}
 use Rattle.clocks.specs.Blocks.{passing}
 use Rattle.nths.proofs.Rows.{days_high}
-use Rattle.plain.proofs.Filling.{Filling, fill_begins, fill_no, fill_yes, fill_ends}
+use Rattle.plain.proofs.Filling.{fill_begins, fill_no, fill_yes, fill_ends}
 use Rattle.days.specs.Filters.{DayLists, day_lists, place_passes}
 use Rattle.days.specs.DaySets.{day_set}
 use Rattle.days.proofs.Stretches.{by_all}

@@ -1,8 +1,7 @@
 -- `days::iterinfo::first_marked` meets its contract.
 -- Assumes nothing.
 use Prim.Native.Nat.{◌-◌}
-use native.Mathlib.Omega.{arith}
-use Rattle.days.proofs.Blanks.{Searched, search_begins, search_one, search_finds, search_ends}
+use Rattle.days.proofs.Blanks.{Searched}
 use Rattle.days.proofs.iterinfo.first_marked.Given as goal
 
 abbrev pub invariant-loop-at : goal.invariant-loop-at

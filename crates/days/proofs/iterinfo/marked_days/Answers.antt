@@ -1,12 +1,12 @@
 -- `days::iterinfo::marked_days` meets its contract.
 -- Assumes nothing.
-use Prim.Native.Nat.{ℕ, ◌+◌, ◌-◌, ◌≤◌, ◌<◌}
-use mathlib.Core.Path.{◌≡◌, refl}
-use mathlib.Core.Bool.{Bool, true, false}
+use Prim.Native.Nat.{ℕ, ◌+◌}
+use mathlib.Core.Path.{refl}
+use mathlib.Core.Bool.{Bool, false}
 use mathlib.Core.List.{List}
 use lib.ListN.{get_or, set}
 use native.Mathlib.Omega.{arith}
-use Rattle.plain.proofs.Filling.{Filling, fill_begins, fill_yes, fill_ends}
+use Rattle.plain.proofs.Filling.{fill_begins, fill_yes, fill_ends}
 use Rattle.days.specs.DaySets.{marked_days}
 use Rattle.days.proofs.Blanks.{fill_skips}
 use Rattle.days.proofs.iterinfo.marked_days.Goals as goal

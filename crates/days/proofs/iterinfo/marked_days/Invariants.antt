@@ -1,14 +1,11 @@
 -- `days::iterinfo::marked_days` meets its contract.
 -- Assumes nothing.
-use Prim.Native.Nat.{ℕ, ◌+◌, ◌-◌, ◌≤◌, ◌<◌}
-use mathlib.Core.Path.{◌≡◌, refl}
-use mathlib.Core.Bool.{Bool, true, false}
-use mathlib.Core.List.{List}
-use lib.ListN.{get_or, set}
-use native.Mathlib.Omega.{arith}
-use Rattle.plain.proofs.Filling.{Filling, fill_begins, fill_yes, fill_ends}
+use Prim.Native.Nat.{◌-◌, ◌≤◌, ◌<◌}
+use mathlib.Core.Path.{◌≡◌}
+use mathlib.Core.Bool.{true, false}
+use lib.ListN.{get_or}
+use Rattle.plain.proofs.Filling.{Filling}
 use Rattle.days.specs.DaySets.{marked_days}
-use Rattle.days.proofs.Blanks.{fill_skips}
 use Rattle.days.proofs.iterinfo.marked_days.Given as goal
 
 abbrev pub invariant-loop-place : goal.invariant-loop-place

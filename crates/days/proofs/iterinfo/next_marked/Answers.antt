@@ -1,9 +1,8 @@
 -- `days::iterinfo::next_marked` meets its contract.
 -- Assumes nothing.
-use Prim.Native.Nat.{◌-◌}
 use mathlib.Core.Path.{◌≡◌}
 use mathlib.Core.Bool.{Bool, false, ◌||◌}
-use Rattle.days.proofs.Blanks.{Searched, search_begins, search_on, search_joins, eight_blank}
+use Rattle.days.proofs.Blanks.{search_begins, search_on, search_joins, eight_blank}
 use Rattle.days.proofs.iterinfo.next_marked.Goals as goal
 
 pub loop-at-init : goal.loop-at-init

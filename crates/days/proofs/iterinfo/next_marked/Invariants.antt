@@ -1,9 +1,7 @@
 -- `days::iterinfo::next_marked` meets its contract.
 -- Assumes nothing.
 use Prim.Native.Nat.{◌-◌}
-use mathlib.Core.Path.{◌≡◌}
-use mathlib.Core.Bool.{Bool, false, ◌||◌}
-use Rattle.days.proofs.Blanks.{Searched, search_begins, search_on, search_joins, eight_blank}
+use Rattle.days.proofs.Blanks.{Searched}
 use Rattle.days.proofs.iterinfo.next_marked.Given as goal
 
 abbrev pub invariant-loop-at : goal.invariant-loop-at

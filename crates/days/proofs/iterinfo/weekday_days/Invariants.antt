@@ -1,17 +1,11 @@
 -- `days::iterinfo::weekday_days` meets its contract. The loop's invariant: what is filled in so far, and the weekday that is carried.
 -- Assumes nothing.
-use Prim.Native.Nat.{ℕ, ◌+◌, ◌-◌, ◌%◌}
-use mathlib.Core.Path.{◌≡◌, refl, ◌∙◌}
-use mathlib.Core.Bool.{Bool, true, false, not, ◌||◌, ◌&&◌}
-use mathlib.Core.List.{List}
-use lib.ListN.{get_or}
-use native.Mathlib.Omega.{arith}
+use Prim.Native.Nat.{◌+◌, ◌-◌}
+use mathlib.Core.Path.{◌≡◌}
 use Rattle.calendar.specs.Calendar.{weekday}
-use Rattle.plain.proofs.Filling.{Filling, fill_begins, fill_ends}
+use Rattle.plain.proofs.Filling.{Filling}
 use Rattle.days.specs.Filters.{weekday_at}
 use Rattle.days.specs.DaySets.{weekday_days}
-use Rattle.days.proofs.FilterLaws.{weekday_read}
-use Rattle.days.proofs.Keeping.{fill_keeps}
 use Rattle.days.proofs.iterinfo.weekday_days.Given as goal
 
 abbrev pub invariant-loop-place : goal.invariant-loop-place

@@ -1,10 +1,10 @@
 -- `days::iterinfo::year_days` meets its contract.
 -- Assumes nothing.
-use Prim.Native.Nat.{ℕ, ◌-◌}
+use Prim.Native.Nat.{ℕ}
 use mathlib.Core.Bool.{Bool}
 use mathlib.Core.List.{List}
 use mathlib.Core.Path.{refl}
-use Rattle.plain.proofs.Filling.{Filling, fill_begins, fill_ends}
+use Rattle.plain.proofs.Filling.{fill_begins, fill_ends}
 use Rattle.days.specs.Filters.{yearday_at}
 use Rattle.days.specs.DaySets.{year_days}
 use Rattle.days.proofs.Keeping.{fill_keeps}

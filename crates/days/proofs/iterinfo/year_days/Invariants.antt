@@ -1,13 +1,9 @@
 -- `days::iterinfo::year_days` meets its contract.
 -- Assumes nothing.
-use Prim.Native.Nat.{ℕ, ◌-◌}
-use mathlib.Core.Bool.{Bool}
-use mathlib.Core.List.{List}
-use mathlib.Core.Path.{refl}
-use Rattle.plain.proofs.Filling.{Filling, fill_begins, fill_ends}
+use Prim.Native.Nat.{◌-◌}
+use Rattle.plain.proofs.Filling.{Filling}
 use Rattle.days.specs.Filters.{yearday_at}
 use Rattle.days.specs.DaySets.{year_days}
-use Rattle.days.proofs.Keeping.{fill_keeps}
 use Rattle.days.proofs.iterinfo.year_days.Given as goal
 
 abbrev pub invariant-loop-place : goal.invariant-loop-place

@@ -1,8 +1,7 @@
 -- `listing::rrule_iter::run` meets its contract.
 -- Assumes nothing.
-use Prim.Native.Nat.{ℕ}
 use mathlib.Core.Path.{◌≡◌, sym, ap, ◌∙◌}
-use mathlib.Core.Bool.{true, false}
+use mathlib.Core.Bool.{true}
 use borrow.Author.Tests.{not-true, not-false}
 use Rattle.machine.specs.declared.Stop.{Stop}
 use Rattle.walks.specs.declared.rrule_iter.Held.{Held}

@@ -1,15 +1,12 @@
 -- `listing::rrule_iter::run_on` meets its contract. Each place of the loop has a name; what is known there is one record.
 -- Assumes nothing.
-use Prim.Native.Nat.{ℕ, ◌+◌, ◌-◌, ◌*◌, ◌^◌, ◌<◌}
+use Prim.Native.Nat.{ℕ, ◌-◌, ◌*◌}
 use mathlib.Core.Path.{◌≡◌, refl, sym, ap, ◌∙◌}
-use mathlib.Core.Bool.{Bool, true, false}
+use mathlib.Core.Bool.{Bool, true}
 use mathlib.Core.List.{List}
-use native.Mathlib.Omega.{arith}
 use borrow.Author.Tests.{not-true, not-false}
-use Rattle.calendar.specs.Calendar.{if◌then◌else◌}
 use Rattle.machine.specs.declared.State.{State}
 use Rattle.machine.specs.Compute.{walk}
-use Rattle.rule.specs.declared.rrule.Rule.{Rule}
 use Rattle.stretches.specs.declared.counter_date.Days.{Days}
 use Rattle.stretches.specs.Stretches.{days_in}
 use Rattle.years.specs.declared.iterinfo.IterInfo.{IterInfo}
@@ -17,10 +14,7 @@ use Rattle.plans.specs.declared.plan.Plan.{Plan}
 use Rattle.units.specs.Years.{is_in_year}
 use Rattle.walks.specs.declared.rrule_iter.Walked.{Walked}
 use Rattle.walks.specs.Walks.{given_by, now_of, walked_by}
-use Rattle.opened.specs.Opened.{span_of}
-use Rattle.settling.specs.declared.rrule_iter.Settled.{Settled}
-use Rattle.settling.specs.Settling.{settled}
-use Rattle.listing.proofs.Turns.{Going, At, Turn, Opens, Walks, to_walk, fits, span_is, info_made, info_covers, sound, ready, refused_right, goes}
+use Rattle.listing.proofs.Turns.{Going, Turn, Opens, Walks, to_walk, span_is, info_made, info_covers, sound, ready, refused_right, goes}
 use Rattle.listing.proofs.Turns.{room_is, stops_right, moves_left, no_tick_right, range_right, moves_one, leads_on}
 use Rattle.listing.proofs.Turns.{begins_at, rebuilt, nearer_by_year, nearer_by_move}
 use Rattle.listing.proofs.rrule_iter.run_on.Goals as goal

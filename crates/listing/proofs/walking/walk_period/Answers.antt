@@ -3,7 +3,6 @@
 use mathlib.Core.Path.{◌≡◌, ◌∙◌}
 use mathlib.Core.Bool.{true, false}
 use borrow.Author.Tests.{not-true, not-false}
-use Rattle.opening.specs.Opening.{second_kept}
 use Rattle.listing.proofs.WalkLaws.{by_places, by_days, walked_none}
 use Rattle.listing.proofs.walking.walk_period.Goals as goal
 

@@ -1,7 +1,6 @@
 -- `moves::counter_date::increment` meets its contract.
 -- Assumes nothing.
 use mathlib.Core.Path.{◌∙◌}
-use native.Mathlib.Omega.{arith}
 use Rattle.periods.specs.Counters.{step_of, limit_of}
 use Rattle.moves.proofs.Steps.{by_coarse}
 use Rattle.moves.proofs.counter_date.increment.Goals as goal

@@ -3,7 +3,6 @@
 use mathlib.Core.Path.{◌≡◌, sym, ap, ◌∙◌}
 use Prim.Native.Nat.{ℕ, ◌≤◌}
 use native.Mathlib.Omega.{arith}
-use Rattle.machine.specs.Given.{Move.To}
 use Rattle.rule.specs.Moves.{ticks}
 use Rattle.ticks.specs.declared.counter_date.Hit.{Hit}
 use Rattle.ticks.specs.Ticks.{tick_on, first_tick}

@@ -1,10 +1,6 @@
 -- `nths::monthinfo::has_entry` meets its contract.
 -- Assumes nothing.
-use Prim.Native.Nat.{◌-◌, ◌≤◌}
-use mathlib.Core.Path.{◌≡◌}
-use mathlib.Core.Bool.{false}
 use native.Mathlib.Omega.{arith}
-use Rattle.nths.specs.Marks.{NoEntry}
 use Rattle.nths.proofs.MarkLaws.{no_rows, one_row_more, all_rows}
 use Rattle.nths.proofs.monthinfo.has_entry.Goals as goal
 

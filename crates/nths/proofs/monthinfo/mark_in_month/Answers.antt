@@ -1,6 +1,6 @@
 -- `nths::monthinfo::mark_in_month` meets its contract.
 -- Assumes nothing.
-use Prim.Native.Nat.{ℕ, ◌+◌, ◌-◌, ◌%◌, ◌<◌}
+use Prim.Native.Nat.{ℕ, ◌+◌, ◌<◌}
 use mathlib.Core.Path.{◌≡◌, sym, ap, ◌∙◌}
 use mathlib.Core.Bool.{false}
 use mathlib.Core.List.{List}
@@ -10,7 +10,6 @@ use borrow.Author.Tests.{lt-ltb}
 use Rattle.calendar.specs.Calendar.{days_of, MonthDay, table_day, from_end}
 use Rattle.calendar.proofs.Months.{table_at}
 use Rattle.nths.specs.Masks.{nth_at}
-use Rattle.nths.specs.Marks.{Marked}
 use Rattle.nths.proofs.Rows.{Row, days_high, row}
 use Rattle.nths.proofs.NthLaws.{nth_in_month}
 use Rattle.nths.proofs.MarkLaws.{none_marked, one_marked, all_marked}

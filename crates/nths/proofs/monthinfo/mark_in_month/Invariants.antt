@@ -1,19 +1,11 @@
 -- `nths::monthinfo::mark_in_month` meets its contract.
 -- Assumes nothing.
-use Prim.Native.Nat.{ℕ, ◌+◌, ◌-◌, ◌%◌, ◌<◌}
-use mathlib.Core.Path.{◌≡◌, sym, ap, ◌∙◌}
+use Prim.Native.Nat.{◌+◌, ◌-◌, ◌%◌, ◌<◌}
+use mathlib.Core.Path.{◌≡◌}
 use mathlib.Core.Bool.{false}
-use mathlib.Core.List.{List}
-use lib.ListN.{get_or}
-use native.Mathlib.Omega.{arith}
-use borrow.Author.Tests.{lt-ltb}
-use Rattle.calendar.specs.Calendar.{days_of, MonthDay, table_day, from_end}
-use Rattle.calendar.proofs.Months.{table_at}
+use Rattle.calendar.specs.Calendar.{days_of}
 use Rattle.nths.specs.Masks.{nth_at}
 use Rattle.nths.specs.Marks.{Marked}
-use Rattle.nths.proofs.Rows.{Row, days_high, row}
-use Rattle.nths.proofs.NthLaws.{nth_in_month}
-use Rattle.nths.proofs.MarkLaws.{none_marked, one_marked, all_marked}
 use Rattle.nths.proofs.monthinfo.mark_in_month.Given as goal
 
 abbrev pub invariant-loop-place : goal.invariant-loop-place

@@ -1,16 +1,10 @@
 -- `nths::monthinfo::mark_in_year` meets its contract.
 -- Assumes nothing.
 use Prim.Native.Nat.{◌+◌, ◌-◌, ◌%◌, ◌<◌}
-use mathlib.Core.Path.{◌≡◌, sym, ◌∙◌}
+use mathlib.Core.Path.{◌≡◌}
 use mathlib.Core.Bool.{true}
-use native.Mathlib.Omega.{arith}
-use borrow.Author.Tests.{lt-ltb}
-use Rattle.calendar.specs.Calendar.{days_of}
 use Rattle.nths.specs.Masks.{nth_at}
 use Rattle.nths.specs.Marks.{Marked}
-use Rattle.nths.proofs.Rows.{days_high, year_day_lem}
-use Rattle.nths.proofs.NthLaws.{nth_in_year}
-use Rattle.nths.proofs.MarkLaws.{none_marked, one_marked, all_marked}
 use Rattle.nths.proofs.monthinfo.mark_in_year.Given as goal
 
 abbrev pub invariant-loop-place : goal.invariant-loop-place

@@ -1,6 +1,5 @@
 -- `nths::places::year_day_from_end` meets its contract.
 -- Assumes nothing.
-use mathlib.Core.Path.{sym}
 use native.Mathlib.Omega.{arith}
 use Rattle.nths.proofs.Rows.{days_high, this_year, next_year, this_length, next_length}
 use Rattle.nths.proofs.places.year_day_from_end.Goals as goal

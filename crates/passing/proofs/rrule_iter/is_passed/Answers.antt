@@ -1,7 +1,5 @@
 -- `passing::rrule_iter::is_passed` meets its contract.
 -- Assumes nothing.
-use mathlib.Core.Path.{sym, ap}
-use mathlib.Core.Bool.{Bool, not}
 use native.Mathlib.Omega.{arith}
 use borrow.Author.Tests.{lt-ltb, le-ltb}
 use Rattle.passing.proofs.rrule_iter.is_passed.Goals as goal

@@ -11,7 +11,7 @@ use Rattle.calendar.specs.Calendar.{days_of}
 use Rattle.clocks.specs.Blocks.{passing}
 use Rattle.nths.proofs.Rows.{days_high}
 use Rattle.plain.specs.DaySets.{month_at, month_days}
-use Rattle.plain.proofs.Filling.{Filling, fill_begins, fill_no, fill_yes, fill_ends}
+use Rattle.plain.proofs.Filling.{fill_begins, fill_no, fill_yes, fill_ends}
 use Rattle.plain.proofs.iterinfo.days_by_month.Goals as goal
 use Rattle.plain.proofs.iterinfo.days_by_month.Goals.{After-stretch_end-stop, Start}
 

@@ -10,7 +10,7 @@ use Rattle.calendar.specs.Calendar.{days_of}
 use Rattle.clocks.specs.Blocks.{passing}
 use Rattle.nths.proofs.Rows.{days_high}
 use Rattle.plain.specs.DaySets.{all_days}
-use Rattle.plain.proofs.Filling.{Filling, fill_begins, fill_yes, fill_ends}
+use Rattle.plain.proofs.Filling.{fill_begins, fill_yes, fill_ends}
 use Rattle.plain.proofs.iterinfo.plain_days.Goals as goal
 use Rattle.plain.proofs.iterinfo.plain_days.Goals.{After-stretch_end-end, Start}
 

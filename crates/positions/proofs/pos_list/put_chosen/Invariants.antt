@@ -1,15 +1,10 @@
 -- `positions::pos_list::put_chosen` meets its contract: what the whole stretch writes is what the rest of it writes.
 -- Assumes nothing.
-use Rattle.std.proofs.Common.{rules}
-use mathlib.Core.Path.{◌≡◌, refl, sym, ◌∙◌, ap}
-use mathlib.Core.List.{List}
-use Prim.Native.Nat.{ℕ, ◌≤◌, ◌+◌, ◌-◌}
-use native.Mathlib.Omega.{arith}
+use mathlib.Core.Path.{◌≡◌}
+use Prim.Native.Nat.{◌≤◌, ◌+◌, ◌-◌}
 use lib.ListN.{length}
 use lib.Seq.{sets}
-use borrow.Author.Tests.{not-true, not-false}
 use Rattle.positions.specs.Places.{kept_within}
-use Rattle.positions.proofs.PlaceLaws.{taken, left, taken_sets, none_within}
 use Rattle.positions.proofs.pos_list.put_chosen.Given as goal
 
 abbrev pub invariant-loop-place : goal.invariant-loop-place

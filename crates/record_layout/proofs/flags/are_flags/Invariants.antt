@@ -1,13 +1,11 @@
 -- `record_layout::flags::are_flags` meets its contract: what is left decides, if the highest byte so far is a flag.
 -- Assumes nothing.
-use Rattle.std.proofs.Common.{rules}
 use Prim.Native.Nat.{◌-◌, ◌≤◌}
-use mathlib.Core.Path.{◌≡◌, refl, sym, ◌∙◌}
+use mathlib.Core.Path.{◌≡◌}
 use mathlib.Core.Bool.{◌&&◌}
 use lib.Dec.{leb}
 use lib.ListN.{length, drop}
 use Rattle.edge.specs.Bytes.{are_flags}
-use Rattle.edge.proofs.ByteLaws.{flags_next, flags_done}
 use Rattle.record_layout.proofs.flags.are_flags.Given as goal
 
 abbrev pub invariant-loop-i : goal.invariant-loop-i

@@ -1,13 +1,10 @@
 -- `record_layout::flags::put_flags` meets its contract: what is left to write completes the bytes.
 -- Assumes nothing.
-use Rattle.std.proofs.Common.{rules}
-use Prim.Native.Nat.{ℕ, ◌+◌, ◌-◌, ◌≤◌}
-use mathlib.Core.Path.{◌≡◌, refl, sym, ap, ◌∙◌}
-use native.Mathlib.Omega.{arith}
-use lib.ListN.{length, set, drop, length-set}
+use Prim.Native.Nat.{◌+◌, ◌-◌, ◌≤◌}
+use mathlib.Core.Path.{◌≡◌}
+use lib.ListN.{length, drop}
 use lib.Seq.{sets}
 use Rattle.edge.specs.Bytes.{flag_bytes}
-use Rattle.edge.proofs.ByteLaws.{put_next, put_done}
 use Rattle.record_layout.proofs.flags.put_flags.Given as goal
 
 abbrev pub invariant-loop-i : goal.invariant-loop-i

@@ -1,12 +1,11 @@
 -- `record_layout::flags::take_flags` meets its contract: what is taken stands first, and the rest completes it.
 -- Assumes nothing.
 use Rattle.std.proofs.Common.{rules}
-use Prim.Native.Nat.{ℕ, ◌+◌, ◌-◌, ◌≤◌}
+use Prim.Native.Nat.{ℕ, ◌+◌, ◌-◌}
 use mathlib.Core.Path.{◌≡◌, refl, ap}
-use mathlib.Core.List.{◌++◌}
 use native.Mathlib.Omega.{arith}
 use lib.Dec.{eqb}
-use lib.ListN.{length, get_or, take, length-set}
+use lib.ListN.{length, get_or, length-set}
 use Rattle.rule.specs.Lists.{flags}
 use Rattle.edge.specs.Bytes.{flags_at}
 use Rattle.edge.proofs.ByteLaws.{take_next, take_done}

@@ -1,12 +1,11 @@
 -- `ticks::counter_date::find_tick` meets its contract. The invariant: the tick is that of n periods on, and the search goes on from there.
 -- Assumes nothing.
-use mathlib.Core.Path.{◌≡◌, refl, sym, ap, ◌∙◌}
+use mathlib.Core.Path.{◌≡◌, sym, ap, ◌∙◌}
 use Prim.Native.Nat.{ℕ, ◌+◌, ◌-◌, ◌*◌, ◌%◌, ◌≤◌, ◌<◌}
 use native.Mathlib.Nat.{mod-lt, mod-eq_of_lt}
 use native.Mathlib.Omega.{arith}
 use Rattle.machine.specs.Given.{Move, Move.To, Move.NoTick}
 use Rattle.rule.specs.Moves.{ticks}
-use Rattle.ticks.specs.declared.counter_date.Hit.{Hit}
 use Rattle.ticks.specs.declared.counter_date.Found.{Found}
 use Rattle.ticks.specs.Ticks.{tick_is_in, tick_on, first_tick, found_by, next_tick}
 use Rattle.ticks.proofs.Days.{tick_on_lem, some_ticks, ticks_fit}

@@ -1,15 +1,9 @@
 -- `validator::entries::are_rising` meets its contract: what is asked of all pairs is asked of those that are left, behind the pair before.
 -- Assumes nothing.
 use Rattle.std.proofs.Common.{rules}
-use mathlib.Core.Path.{◌≡◌, refl, sym, ◌∙◌, ap}
-use mathlib.Core.Bool.{not, ◌&&◌}
-use Prim.Native.Nat.{◌≤◌, ◌+◌, ◌-◌}
-use native.Mathlib.Omega.{arith}
-use lib.IntN.{pos}
-use lib.ListN.{length, get_or, drop}
+use mathlib.Core.Path.{sym, ◌∙◌}
 use native.Mathlib.Nat.{add-sub_cancel}
 use borrow.Author.Tests.{not-true, not-false}
-use Rattle.rule.specs.Refusals.{pairs_rise, pairs_rise_from}
 use Rattle.rule.proofs.EntryLaws.{below_moved, pairs_begin, pairs_on, pairs_not, pairs_done, pairs_short}
 use Rattle.validator.proofs.entries.are_rising.Goals as goal
 

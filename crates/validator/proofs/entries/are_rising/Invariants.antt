@@ -1,16 +1,10 @@
 -- `validator::entries::are_rising` meets its contract: what is asked of all pairs is asked of those that are left, behind the pair before.
 -- Assumes nothing.
-use Rattle.std.proofs.Common.{rules}
-use mathlib.Core.Path.{◌≡◌, refl, sym, ◌∙◌, ap}
-use mathlib.Core.Bool.{not, ◌&&◌}
-use Prim.Native.Nat.{◌≤◌, ◌+◌, ◌-◌}
-use native.Mathlib.Omega.{arith}
+use mathlib.Core.Path.{◌≡◌}
+use Prim.Native.Nat.{◌≤◌, ◌-◌}
 use lib.IntN.{pos}
 use lib.ListN.{length, get_or, drop}
-use native.Mathlib.Nat.{add-sub_cancel}
-use borrow.Author.Tests.{not-true, not-false}
 use Rattle.rule.specs.Refusals.{pairs_rise, pairs_rise_from}
-use Rattle.rule.proofs.EntryLaws.{below_moved, pairs_begin, pairs_on, pairs_not, pairs_done, pairs_short}
 use Rattle.validator.proofs.entries.are_rising.Given as goal
 
 abbrev pub invariant-loop-i : goal.invariant-loop-i

@@ -1,12 +1,9 @@
 -- `validator::entries::has_every` meets its contract: what is asked of the whole list is asked of what is left of it.
 -- Assumes nothing.
 use Rattle.std.proofs.Common.{rules}
-use mathlib.Core.Path.{◌≡◌, refl, sym, ◌∙◌, ap}
-use mathlib.Core.Bool.{Bool, not}
-use Prim.Native.Nat.{◌≤◌, ◌-◌}
-use lib.ListN.{length, drop}
+use mathlib.Core.Path.{refl, sym, ◌∙◌}
 use borrow.Author.Tests.{eq-eqb, ne_eqb}
-use Rattle.rule.specs.Refusals.{some, is_zero, some_every}
+use Rattle.rule.specs.Refusals.{is_zero, some_every}
 use Rattle.rule.proofs.EntryLaws.{every_moved, some_here, some_later, some_none}
 use Rattle.validator.proofs.entries.has_every.Goals as goal
 

@@ -1,13 +1,10 @@
 -- `validator::entries::has_nth` meets its contract: what is asked of the whole list is asked of what is left of it.
 -- Assumes nothing.
 use Rattle.std.proofs.Common.{rules}
-use mathlib.Core.Path.{◌≡◌, refl, sym, ◌∙◌, ap}
-use mathlib.Core.Bool.{Bool, not}
-use Prim.Native.Nat.{◌≤◌, ◌-◌}
-use lib.IntN.{ℤ}
-use lib.ListN.{length, drop}
+use mathlib.Core.Path.{refl, sym, ◌∙◌, ap}
+use mathlib.Core.Bool.{not}
 use borrow.Author.Tests.{eq-eqb, ne_eqb}
-use Rattle.rule.specs.Refusals.{some, is_nth, some_nth}
+use Rattle.rule.specs.Refusals.{is_nth, some_nth}
 use Rattle.rule.proofs.EntryLaws.{every_moved, some_here, some_later, some_none}
 use Rattle.validator.proofs.entries.has_nth.Goals as goal
 

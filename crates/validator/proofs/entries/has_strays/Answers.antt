@@ -1,12 +1,8 @@
 -- `validator::entries::has_strays` meets its contract: what is asked of the whole list is asked of what is left of it.
 -- Assumes nothing.
 use Rattle.std.proofs.Common.{rules}
-use mathlib.Core.Path.{◌≡◌, refl, sym, ◌∙◌, ap}
-use mathlib.Core.Bool.{Bool, not}
-use Prim.Native.Nat.{◌≤◌, ◌-◌}
-use lib.ListN.{length, drop}
-use borrow.Author.Tests.{eq-eqb, ne_eqb}
-use Rattle.rule.specs.Refusals.{some, is_outside, stray_in, strays}
+use mathlib.Core.Path.{refl, sym, ◌∙◌, ap}
+use Rattle.rule.specs.Refusals.{is_outside, stray_in, strays}
 use Rattle.rule.proofs.EntryLaws.{slot_moved, some_here, some_later, some_none}
 use Rattle.validator.proofs.entries.has_strays.Goals as goal
 

@@ -1,14 +1,9 @@
 -- `validator::entries::is_rising` meets its contract: what is asked of the whole list is asked of what is left of it, behind the entry before.
 -- Assumes nothing.
 use Rattle.std.proofs.Common.{rules}
-use mathlib.Core.Path.{◌≡◌, refl, sym, ◌∙◌}
-use Prim.Native.Nat.{◌≤◌, ◌+◌, ◌-◌}
+use mathlib.Core.Path.{sym, ◌∙◌}
 use native.Mathlib.Nat.{add-sub_cancel}
-use native.Mathlib.Omega.{arith}
-use lib.IntN.{pos}
-use lib.ListN.{length, get_or, drop}
 use borrow.Author.Tests.{lt-ltb, le-ltb}
-use Rattle.rule.specs.Refusals.{rises, rises_from}
 use Rattle.rule.proofs.EntryLaws.{less_moved, rises_begin, rises_on, rises_not, rises_done}
 use Rattle.validator.proofs.entries.is_rising.Goals as goal
 

@@ -1,7 +1,6 @@
 -- `walks::rrule_iter::second_on` meets its contract.
 -- Assumes nothing.
-use mathlib.Core.Path.{◌≡◌, refl, sym, ap}
-use Prim.Native.Nat.{ℕ, ◌+◌, ◌*◌, ◌<◌, ◌^◌}
+use Prim.Native.Nat.{◌<◌, ◌^◌}
 use native.Mathlib.Omega.{arith}
 use Rattle.walks.specs.Walks.{second_on}
 use Rattle.walks.proofs.SecondLaws.{time_below}

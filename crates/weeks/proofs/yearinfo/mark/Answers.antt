@@ -1,8 +1,6 @@
 -- `weeks::yearinfo::mark` meets its contract.
 -- Assumes nothing.
-use Prim.Native.Nat.{◌≤◌, ◌-◌, max}
 use native.Mathlib.Omega.{arith}
-use Rattle.weeks.specs.Weeks.{Marked}
 use Rattle.weeks.proofs.Marks.{mark_none, mark_next, mark_done}
 use Rattle.weeks.proofs.yearinfo.mark.Goals as goal
 

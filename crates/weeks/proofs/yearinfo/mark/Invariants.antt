@@ -1,9 +1,7 @@
 -- `weeks::yearinfo::mark` meets its contract.
 -- Assumes nothing.
 use Prim.Native.Nat.{◌≤◌, ◌-◌, max}
-use native.Mathlib.Omega.{arith}
 use Rattle.weeks.specs.Weeks.{Marked}
-use Rattle.weeks.proofs.Marks.{mark_none, mark_next, mark_done}
 use Rattle.weeks.proofs.yearinfo.mark.Given as goal
 
 abbrev pub invariant-loop-i : goal.invariant-loop-i

@@ -2,12 +2,11 @@
 -- Assumes nothing.
 use mathlib.Core.Path.{◌≡◌, sym, ◌∙◌}
 use mathlib.Core.Bool.{true}
-use Prim.Native.Nat.{◌≤◌, ◌-◌}
 use native.Mathlib.Omega.{arith}
 use borrow.Author.Tests.{not-true, not-false}
 use Rattle.weeks.specs.Weeks.{has_mask}
 use Rattle.weeks.proofs.Numbers.{longest, counted}
-use Rattle.weeks.proofs.Masks.{Asked, asked, no_mask_lem, Upto, none_done, skip_week, mark_week, all_done}
+use Rattle.weeks.proofs.Masks.{Asked, asked, no_mask_lem, none_done, skip_week, mark_week, all_done}
 use Rattle.weeks.proofs.yearinfo.week_no_mask.Goals as goal
 use Rattle.weeks.proofs.yearinfo.week_no_mask.Goals.{Else-not-has_mask}
 

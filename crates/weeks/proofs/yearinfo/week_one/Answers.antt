@@ -1,7 +1,6 @@
 -- `weeks::yearinfo::week_one` meets its contract.
 -- Assumes nothing.
 use Rattle.std.proofs.Common.{rules}
-use mathlib.Core.Path.{◌≡◌}
 use Prim.Native.Nat.{◌≤◌}
 use native.Mathlib.Omega.{arith}
 use Rattle.calendar.specs.Calendar.{new_year}

@@ -1,6 +1,6 @@
 -- `words::rows::number_at` meets its contract.
 -- Assumes nothing.
-use Rattle.std.proofs.Common.{sym, rules}
+use Rattle.std.proofs.Common.{sym}
 use lib.ListN.{get_or-eq_default}
 use Rattle.words.proofs.rows.number_at.Goals as goal
 

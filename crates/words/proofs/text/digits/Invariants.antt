@@ -1,6 +1,6 @@
 -- `words::text::digits` is safe and ends.
 -- Assumes nothing.
-use Rattle.std.proofs.Common.{◌-◌, ◌≤◌, length, rules}
+use Rattle.std.proofs.Common.{◌-◌, ◌≤◌, length}
 use Rattle.words.proofs.text.digits.Given as goal
 
 abbrev pub invariant-loop-i : goal.invariant-loop-i

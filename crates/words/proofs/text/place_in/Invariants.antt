@@ -1,6 +1,6 @@
 -- `words::text::place_in` is safe and ends.
 -- Assumes nothing.
-use Rattle.std.proofs.Common.{◌-◌, ◌≤◌, length, rules}
+use Rattle.std.proofs.Common.{◌-◌, ◌≤◌, length}
 use Rattle.words.proofs.text.place_in.Given as goal
 
 abbrev pub invariant-loop-at : goal.invariant-loop-at

@@ -1,6 +1,6 @@
 -- `words::words::take_list` is safe and ends.
 -- Assumes nothing.
-use Rattle.std.proofs.Common.{◌≡◌, ◌-◌, ◌≤◌, length, rules}
+use Rattle.std.proofs.Common.{◌≡◌, ◌-◌, ◌≤◌, length}
 use Rattle.words.proofs.words.take_list.Given as goal
 
 abbrev pub invariant-loop-at : goal.invariant-loop-at

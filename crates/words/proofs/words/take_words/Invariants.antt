@@ -1,6 +1,6 @@
 -- `words::words::take_words` is safe and ends.
 -- Assumes nothing.
-use Rattle.std.proofs.Common.{◌≡◌, ◌-◌, ◌≤◌, length, rules}
+use Rattle.std.proofs.Common.{◌≡◌, ◌-◌, ◌≤◌, length}
 use Rattle.words.proofs.words.take_words.Given as goal
 
 abbrev pub invariant-loop-at : goal.invariant-loop-at
