@@ -23,7 +23,7 @@ def program(variable, path, how):
 
 def both_programs():
     """The line program and the oracle."""
-    lines = program("LINE_PROGRAM", COMPARE.parent / "target/bin/lines", "rt check lines")
+    lines = program("LINE_PROGRAM", COMPARE.parent / "crates/lines/out/lines", "./list freq=daily start=0")
     return lines, program("ORACLE", COMPARE / "target/rrule/target/release/oracle", "compare/build")
 
 

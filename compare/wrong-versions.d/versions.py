@@ -7,20 +7,20 @@ Edit = namedtuple("Edit", "path old new uses")
 Version = namedtuple("Version", "name edit module case apart", defaults=[None])
 
 FREQUENCIES = ("Yearly", "Monthly", "Weekly", "Daily", "Hourly", "Minutely", "Secondly")
-SAME = "Rattle·rule·specs.specs.Filling.{same}"
-NOT = "mathlib.Core.Bool.{not}"
-OR = "mathlib.Core.Bool.{_||_}"
-AND = "mathlib.Core.Bool.{_&&_}"
-IF = "Rattle·calendar.specs.Calendar.{if_then_else_}"
-FREQUENCY = "Rattle·rule·specs.specs.declared.rrule.Frequency.{Frequency}"
-PLUS = "Prim.Native.Nat.{_+_}"
-SUC = "Prim.Native.Nat.{suc}"
-LEB = "lib.Dec.{leb}"
-LTB = "lib.Dec.{ltb}"
-EQB = "lib.Dec.{eqb}"
-MAX = "Prim.Native.Nat.{max}"
-IS_EMPTY = "Rattle·rule·specs.specs.Lists.{isEmpty}"
-EARLY = "Rattle·machine·specs.specs.Run.{early}"
+SAME = "Rattle.rule.specs.Filling.{same}"
+NOT = "Rattle.std.specs.Prelude.{not}"
+OR = "Rattle.std.specs.Prelude.{◌||◌}"
+AND = "Rattle.std.specs.Prelude.{◌&&◌}"
+IF = "Rattle.calendar.specs.Calendar.{if◌then◌else◌}"
+FREQUENCY = "Rattle.rule.specs.declared.rrule.Frequency.{Frequency}"
+PLUS = "Rattle.std.specs.Prelude.{◌+◌}"
+SUC = "Rattle.std.specs.Prelude.{suc}"
+LEB = "Rattle.std.specs.Prelude.{leb}"
+LTB = "Rattle.std.specs.Prelude.{ltb}"
+EQB = "Rattle.std.specs.Prelude.{eqb}"
+MAX = "Rattle.std.specs.Prelude.{max}"
+IS_EMPTY = "Rattle.rule.specs.Lists.{is_empty}"
+EARLY = "Rattle.machine.specs.Run.{early}"
 
 DAYS, TIMES, CANDIDATES, MOVES = "rule/Days", "rule/Times", "rule/Candidates", "rule/Moves"
 PERIODS, RUN, LISTS, REFUSALS, FILLING = "rule/Periods", "rule/Run", "rule/Lists", "rule/Refusals", "rule/Filling"
@@ -33,7 +33,7 @@ REFUSED_WITH = {"week-number": FREQUENCIES[1:], "year-day": FREQUENCIES[1:4], "m
 
 
 def at(frequency):
-    return f"same (r .freq) Frequency.{frequency}"
+    return f"same r.freq Frequency.{frequency}"
 
 
 def may_stand(name, frequency):
@@ -43,18 +43,18 @@ def may_stand(name, frequency):
 # A list passed over at a frequency: its test there always passes.
 
 DAY_TESTS = {
-    "month": "monthPasses r date)",
-    "month-day": "monthdayPasses r date)",
-    "year-day": "yeardayPasses r (date .year) d)",
-    "week-number": "weekPasses r (date .year) d)",
-    "day": "weekdayPasses r date d)",
+    "month": "month_passes r date)",
+    "month-day": "monthday_passes r date)",
+    "year-day": "yearday_passes r date.year d)",
+    "week-number": "week_passes r date.year d)",
+    "day": "weekday_passes r date d)",
 }
 TIME_TESTS = {
-    "hour": "isIn hours (r .byhour) (pos h)",
-    "minute": "isIn minutes (r .byminute) (pos m)",
-    "second": "isIn seconds (r .bysecond) (pos s)",
+    "hour": "is_in hours r.byhour (pos h)",
+    "minute": "is_in minutes r.byminute (pos m)",
+    "second": "is_in seconds r.bysecond (pos s)",
 }
-KEPT = "keeps (r .bysetpos) (candidates r k)"
+KEPT = "keeps r.bysetpos (candidates r k)"
 
 
 def passed_over():
@@ -73,33 +73,33 @@ def passed_over():
 
 ENDS = {
     "month-day": (
-        "eitherEnd monthdays (r .bymonthday) (date .day) (date .length)",
-        "isIn monthdays (r .bymonthday) (pos (date .day))",
-        "isIn monthdays (r .bymonthday) (negℤ (pos (date .length + 1 - date .day)))",
+        "either_end monthdays r.bymonthday date.day date.length",
+        "is_in monthdays r.bymonthday (pos date.day)",
+        "is_in monthdays r.bymonthday (neg_ℤ (pos (date.length + 1 - date.day)))",
     ),
     "year-day": (
-        "eitherEnd yeardays (r .byyearday) (yearday y d) (yearLength y)",
-        "isIn yeardays (r .byyearday) (pos (yearday y d))",
-        "isIn yeardays (r .byyearday) (negℤ (pos (yearLength y + 1 - yearday y d)))",
+        "either_end yeardays r.byyearday (yearday y d) (year_length y)",
+        "is_in yeardays r.byyearday (pos (yearday y d))",
+        "is_in yeardays r.byyearday (neg_ℤ (pos (year_length y + 1 - yearday y d)))",
     ),
     "week-number": (
-        "numberPasses (r .byweekno) (weekNumber (r .wkst) own d) (weeksIn (r .wkst) own)",
-        "isIn weeknos (r .byweekno) (pos (weekNumber (r .wkst) own d))",
-        "isIn weeknos (r .byweekno) (pos (weekNumber (r .wkst) own d) -ℤ pos (weeksIn (r .wkst) own) -ℤ pos 1)",
+        "number_passes r.byweekno (week_number r.wkst own d) (weeks_in r.wkst own)",
+        "is_in weeknos r.byweekno (pos (week_number r.wkst own d))",
+        "is_in weeknos r.byweekno (pos (week_number r.wkst own d) -ℤ pos (weeks_in r.wkst own) -ℤ pos 1)",
     ),
 }
 KEPT_WHOLE = "unfoldable pub kept : Rule → ℕ → List ℕ\nunfolding keeps candidates\nkept r k = " + KEPT
-ONE_END = """unfoldable pub oneEnd : List Bool → ℕ → ℕ → List ℕ → List ℕ
-unfolding isIn
-oneEnd s n j [] = []
-oneEnd s n j (x ∷ xs) = only (isIn positions s ({place})) (x ∷ []) ++ oneEnd s n (j + 1) xs
+ONE_END = """unfoldable pub one_end : List Bool → ℕ → ℕ → List ℕ → List ℕ
+unfolding is_in
+one_end s n j [] = []
+one_end s n j (x ∷ xs) = only (is_in positions s ({place})) (x ∷ []) ++ one_end s n (j + 1) xs
 
 unfoldable pub kept : Rule → ℕ → List ℕ
-unfolding keeps candidates oneEnd
+unfolding keeps candidates one_end
 kept r k =
-    if {there} && not (isEmpty (r .bysetpos))
-    then oneEnd (r .bysetpos) (length (candidates r k)) 0 (candidates r k)
-    else keeps (r .bysetpos) (candidates r k)"""
+    if {there} && not (is_empty r.bysetpos)
+    then one_end r.bysetpos (length (candidates r k)) 0 (candidates r k)
+    else keeps r.bysetpos (candidates r k)"""
 
 
 def one_ended():
@@ -109,25 +109,25 @@ def one_ended():
                 continue
             for told, rest, case in (("not forward", backward, f"by-{name}"), ("not from the end", forward, f"by-{name}-from-end")):
                 yield Version(f"{freq}: {name} {told}", Edit(DAYS, whole, f"(if {at(freq)} then {rest} else {whole})", []), freq, case, freq)
-        for told, place, case in (("not forward", "negℤ (pos (n - j))", "by-position"), ("not from the end", "pos (j + 1)", "by-position-from-end")):
+        for told, place, case in (("not forward", "neg_ℤ (pos (n - j))", "by-position"), ("not from the end", "pos (j + 1)", "by-position-from-end")):
             new = ONE_END.format(place=place, there=at(freq))
             yield Version(f"{freq}: positions {told}", Edit(CANDIDATES, KEPT_WHOLE, new, [SAME, NOT, AND]), freq, case, freq)
 
 
-OF_YEAR = "nthPasses (r .byday) (weekday d) (yearday (date .year) d) (yearLength (date .year))"
-OF_MONTH = "nthPasses (r .byday) (weekday d) (date .day) (date .length)"
+OF_YEAR = "nth_passes r.byday (weekday d) (yearday date.year d) (year_length date.year)"
+OF_MONTH = "nth_passes r.byday (weekday d) date.day date.length"
 
 
 def nth(place, length, forward):
-    n = f"pos (nthOf ({place}))" if forward else f"negℤ (pos (nthFromEnd ({place}) ({length})))"
-    return f"isPairIn (r .byday) ({n}) (pos (weekday d))"
+    n = f"pos (nth_of ({place}))" if forward else f"neg_ℤ (pos (nth_from_end ({place}) ({length})))"
+    return f"is_pair_in r.byday ({n}) (pos (weekday d))"
 
 
 def nths():
     for forward, case in ((True, "nth-of-{}-from-end"), (False, "nth-of-{}")):
         told = "not from the end" if forward else "not forward"
-        of_year = nth("yearday (date .year) d", "yearLength (date .year)", forward)
-        of_month = nth("date .day", "date .length", forward)
+        of_year = nth("yearday date.year d", "year_length date.year", forward)
+        of_month = nth("date.day", "date.length", forward)
         yield Version(f"Yearly: nth of the year {told}", Edit(DAYS, f"then {OF_YEAR}", f"then {of_year}", []), "Yearly", case.format("year"))
         for freq in ("Yearly", "Monthly"):
             new = f"else (if {at(freq)} then {of_month} else {OF_MONTH})"
@@ -141,44 +141,44 @@ def nths():
 # Moves below DAILY: a tick's test dropped, and the later date.
 
 def moves():
-    hour, minute, second = "hourPasses r (hourOf s)", "minutePasses r (minuteOf s)", "secondPasses r (secondOf s)"
+    hour, minute, second = "hour_passes r (hour_of s)", "minute_passes r (minute_of s)", "second_passes r (second_of s)"
     ticks = {
         "Hourly": (hour, {"hour": "true"}),
         "Minutely": (f"{hour} && {minute}", {"hour": minute, "minute": hour}),
-        "Secondly": ("timePasses r s", {"hour": f"{minute} && {second}", "minute": f"{hour} && {second}", "second": f"{hour} && {minute}"}),
+        "Secondly": ("time_passes r s", {"hour": f"{minute} && {second}", "minute": f"{hour} && {second}", "second": f"{hour} && {minute}"}),
     }
     for freq, (whole, without) in ticks.items():
-        begins = f"tickPasses r Frequency.{freq} s = "
+        begins = f"tick_passes r Frequency.{freq} s = "
         for name, rest in without.items():
             yield Version(f"{freq}: a move by any {name}", Edit(TIMES, begins + whole, begins + rest, []), freq, f"by-{name}", freq)
-        edit = Edit(MOVES, "dayPasses r (dayIn r k) then", f"{at(freq)} || dayPasses r (dayIn r k) then", [SAME, OR])
+        edit = Edit(MOVES, "day_passes r (day_in r k) then", f"{at(freq)} || day_passes r (day_in r k) then", [SAME, OR])
         yield Version(f"{freq}: a move on the same day", edit, freq, "by-month", freq)
 
 
 # Filling in: left out, done where it isn't due, and done with another value.
 
 FILLS = {  # the test, what it fills, and at which frequencies that is due
-    "month": ("free && same (r .freq) Frequency.Yearly", "bymonth", ("Yearly",)),
-    "month-day": ("free && (same (r .freq) Frequency.Yearly || same (r .freq) Frequency.Monthly)", "bymonthday", ("Yearly", "Monthly")),
-    "weekday": ("free && same (r .freq) Frequency.Weekly", "byday", ("Weekly",)),
-    "hour": ("isBelow (r .freq) Frequency.Hourly", "byhour", FREQUENCIES[:4]),
-    "minute": ("isBelow (r .freq) Frequency.Minutely", "byminute", FREQUENCIES[:5]),
-    "second": ("isBelow (r .freq) Frequency.Secondly", "bysecond", FREQUENCIES[:6]),
+    "month": ("free && same r.freq Frequency.Yearly", "bymonth", ("Yearly",)),
+    "month-day": ("free && (same r.freq Frequency.Yearly || same r.freq Frequency.Monthly)", "bymonthday", ("Yearly", "Monthly")),
+    "weekday": ("free && same r.freq Frequency.Weekly", "byday", ("Weekly",)),
+    "hour": ("is_below r.freq Frequency.Hourly", "byhour", FREQUENCIES[:4]),
+    "minute": ("is_below r.freq Frequency.Minutely", "byminute", FREQUENCIES[:5]),
+    "second": ("is_below r.freq Frequency.Secondly", "bysecond", FREQUENCIES[:6]),
 }
 OTHER_VALUES = {  # a value, what is taken instead, and the case that sees it
-    "month": ("months (pos (date .month))", "months (pos (date .day))", "yearly"),
-    "month-day": ("monthdays (pos (date .day))", "monthdays (pos (date .month))", "monthly"),
-    "weekday": ("pos (weekday (dayOf s))", "pos (weekday (dayOf s + 1))", "weekly"),
-    "hour": ("hours (pos (hourOf s))", "hours (pos (minuteOf s))", "daily"),
-    "minute": ("minutes (pos (minuteOf s))", "minutes (pos (secondOf s))", "hourly"),
-    "second": ("seconds (pos (secondOf s))", "seconds (pos (minuteOf s))", "minutely"),
+    "month": ("months (pos date.month)", "months (pos date.day)", "yearly"),
+    "month-day": ("monthdays (pos date.day)", "monthdays (pos date.month)", "monthly"),
+    "weekday": ("pos (weekday (day_of s))", "pos (weekday (day_of s + 1))", "weekly"),
+    "hour": ("hours (pos (hour_of s))", "hours (pos (minute_of s))", "daily"),
+    "minute": ("minutes (pos (minute_of s))", "minutes (pos (second_of s))", "hourly"),
+    "second": ("seconds (pos (second_of s))", "seconds (pos (minute_of s))", "minutely"),
 }
 
 
 def fillings():
     for name, (test, field, due) in FILLS.items():
         for freq in FREQUENCIES:
-            for months, there in (("", "isEmpty (r .bymonth)"), ("-in-months", "not (isEmpty (r .bymonth))")):
+            for months, there in (("", "is_empty r.bymonth"), ("-in-months", "not (is_empty r.bymonth)")):
                 if name == "month" and months:
                     continue  # a month that is given is not taken, whatever the test
                 where = f"{at(freq)} && {there}"
@@ -190,13 +190,13 @@ def fillings():
     for name, (old, new, case) in OTHER_VALUES.items():
         yield Version(f"another {name} filled in", Edit(FILLING, old, new, []), "Filling", case)
     test = FILLS["month"][0]
-    old = f"bymonth = takes ({test}) (r .bymonth) (slotOf months (pos (date .month)));"
-    new = f"bymonth = if {test} then mark (r .bymonth) (slotOf months (pos (date .month))) else r .bymonth;"
+    old = f"bymonth = takes ({test}) r.bymonth (slot_of months (pos date.month));"
+    new = f"bymonth = if {test} then mark r.bymonth (slot_of months (pos date.month)) else r.bymonth;"
     yield Version("Yearly: month filled in though given", Edit(FILLING, old, new, []), "Filling", "yearly-in-months")
     for field, name in (("byweekno", "week-number"), ("byyearday", "year-day"), ("bymonthday", "month-day"), ("byday", "day")):
-        old = "noDays r = isEmpty (r .byweekno) && (isEmpty (r .byyearday) && (isEmpty (r .bymonthday) && isEmpty (r .byday)))"
+        old = "no_days r = is_empty r.byweekno && (is_empty r.byyearday && (is_empty r.bymonthday && is_empty r.byday))"
         for freq in FREQUENCIES[:3]:
-            new = old.replace(f"isEmpty (r .{field})", f"({at(freq)} || isEmpty (r .{field}))")
+            new = old.replace(f"is_empty r.{field}", f"({at(freq)} || is_empty r.{field})")
             if freq == "Monthly" and field == "bymonthday" or freq == "Weekly" and field == "byday":
                 continue  # that list is the one to fill in, and it isn't empty
             if may_stand(name, freq):
@@ -206,32 +206,32 @@ def fillings():
 # The numbers, and the tests of the check.
 
 REFUSED = (  # number, name, the table of the grid that has it, and its test
-    (1, "FrequencyAbove", "frequency", "ltb 6 (w .freq)"),
-    (2, "WeekStartAbove", "week-start", "ltb 6 (w .wkst)"),
-    (3, "StartOut", "start", "ltb lastInstant (w .start)"),
-    (4, "UntilOut", "until", "untilOut (w .until)"),
-    (5, "EntryOut", "entries-month", "entryOut (w .lists)"),
-    (6, "NotRising", "order-month", "notRising (w .lists)"),
-    (7, "MixedDays", "mixed", "mixedDays (w .lists)"),
-    (8, "NthMisplaced", "nth", "nthMisplaced (w .freq) (w .lists)"),
-    (9, "PositionsAlone", "positions", "positionsAlone (w .lists)"),
-    (10, "Nought", "nought", "nought (w .interval) (w .count)"),
-    (11, "CountAndUntil", "count-and-until", "countAndUntil (w .count) (w .until)"),
-    (12, "ListMisplaced", "misplaced-weekno", "listMisplaced (w .freq) (w .lists)"),
+    (1, "FrequencyAbove", "frequency", "ltb 6 w.freq"),
+    (2, "WeekStartAbove", "week-start", "ltb 6 w.wkst"),
+    (3, "StartOut", "start", "ltb last_instant w.start"),
+    (4, "UntilOut", "until", "until_out w.until"),
+    (5, "EntryOut", "entries-month", "entry_out w.lists"),
+    (6, "NotRising", "order-month", "not_rising w.lists"),
+    (7, "MixedDays", "mixed", "mixed_days w.lists"),
+    (8, "NthMisplaced", "nth", "nth_misplaced w.freq w.lists"),
+    (9, "PositionsAlone", "positions", "positions_alone w.lists"),
+    (10, "Nought", "nought", "nought w.interval w.count"),
+    (11, "CountAndUntil", "count-and-until", "count_and_until w.count w.until"),
+    (12, "ListMisplaced", "misplaced-weekno", "list_misplaced w.freq w.lists"),
 )
 RANGES = {
-    "months": ("fromOne", 12, "entries-month"), "monthdays": ("eitherWay", 31, "entries-monthday"), "yeardays": ("eitherWay", 366, "entries-yearday"),
-    "weeknos": ("eitherWay", 53, "entries-weekno"), "nths": ("throughZero", 53, "entries-day"), "weekdays": ("fromZero", 6, "entries-day"),
-    "hours": ("fromZero", 23, "entries-hour"), "minutes": ("fromZero", 59, "entries-minute"), "seconds": ("fromZero", 59, "entries-second"),
-    "positions": ("eitherWay", 366, "entries-setpos"),
+    "months": ("from_one", 12, "entries-month"), "monthdays": ("either_way", 31, "entries-monthday"), "yeardays": ("either_way", 366, "entries-yearday"),
+    "weeknos": ("either_way", 53, "entries-weekno"), "nths": ("through_zero", 53, "entries-day"), "weekdays": ("from_zero", 6, "entries-day"),
+    "hours": ("from_zero", 23, "entries-hour"), "minutes": ("from_zero", 59, "entries-minute"), "seconds": ("from_zero", 59, "entries-second"),
+    "positions": ("either_way", 366, "entries-setpos"),
 }
-OTHER_KINDS = {"fromOne": "fromZero", "eitherWay": "throughZero", "throughZero": "eitherWay", "fromZero": "fromOne"}
+OTHER_KINDS = {"from_one": "from_zero", "either_way": "through_zero", "through_zero": "either_way", "from_zero": "from_one"}
 
 
 def numbers():
     for (i, a, table, _), (j, b, _, _) in zip(REFUSED, REFUSED[1:]):
-        old = f"refusalNumber Refusal.{a} = {i}\nrefusalNumber Refusal.{b} = {j}\n"
-        new = f"refusalNumber Refusal.{a} = {j}\nrefusalNumber Refusal.{b} = {i}\n"
+        old = f"refusal_number Refusal.{a} = {i}\nrefusal_number Refusal.{b} = {j}\n"
+        new = f"refusal_number Refusal.{a} = {j}\nrefusal_number Refusal.{b} = {i}\n"
         yield Version(f"{i} and {j} exchanged", Edit(REFUSALS, old, new, []), "Refusals", table)
         old, new = f"    Refusal.{a} ∷\n    Refusal.{b} ∷\n", f"    Refusal.{b} ∷\n    Refusal.{a} ∷\n"
         if i != 8:  # 8 needs a BYDAY and 9 has none
@@ -239,8 +239,8 @@ def numbers():
     for i, name, table, test in REFUSED:
         line = f"applies Refusal.{name} w ="
         yield Version(f"{i} never given", Edit(REFUSALS, f"{line} {test}\n", f"{line} false\n", []), "Refusals", table)
-    old = "faultNumber Fault.Record = 20\nfaultNumber Fault.Cursor = 21\n"
-    new = "faultNumber Fault.Record = 21\nfaultNumber Fault.Cursor = 20\n"
+    old = "fault_number Fault.Record = 20\nfault_number Fault.Cursor = 21\n"
+    new = "fault_number Fault.Record = 21\nfault_number Fault.Cursor = 20\n"
     yield Version("20 and 21 exchanged", Edit(FAULTS, old, new, []), "Faults", "record-20")
 
 
@@ -253,19 +253,19 @@ def ranges():
     for name, (kind, n, table) in RANGES.items():
         line, others = f"\n{name} = {kind} {n}\n", {f"to {other}": f"{kind} {other}" for other in (n - 1, n + 1)}
         others["zero"] = f"{OTHER_KINDS[kind]} {n}"
-        if kind == "eitherWay":
+        if kind == "either_way":
             for other in (n - 1, n + 1):
                 others[f"from -{other}"] = f"record {{ negatives = {other}; zeroin = false; positives = {n} }}"
         for told, new in others.items():
             yield Version(f"{name}: {told}", Edit(LISTS, line, f"\n{name} = {new}\n", []), "Refusals", table, list_of(table))
-    for test, table in (("ltb 6 (w .freq)", "frequency"), ("ltb 6 (w .wkst)", "week-start")):
+    for test, table in (("ltb 6 w.freq", "frequency"), ("ltb 6 w.wkst", "week-start")):
         for other in (5, 7):
             new = test.replace("6", str(other))
             yield Version(f"{table} to {other}", Edit(REFUSALS, test, new, []), "Refusals", table)
     for test, new, table in (
-        ("= ltb lastInstant (w .start)", "= leb lastInstant (w .start)", "start"),
-        ("= ltb lastInstant (w .start)", "= ltb (suc lastInstant) (w .start)", "start"),
-        ("= ltb lastInstant t", "= leb lastInstant t", "until"), ("= ltb lastInstant t", "= ltb (suc lastInstant) t", "until"),
+        ("= ltb last_instant w.start", "= leb last_instant w.start", "start"),
+        ("= ltb last_instant w.start", "= ltb (suc last_instant) w.start", "start"),
+        ("= ltb last_instant t", "= leb last_instant t", "until"), ("= ltb last_instant t", "= ltb (suc last_instant) t", "until"),
     ):
         yield Version(f"{table} by {new.strip('= ')}", Edit(REFUSALS, test, new, [LEB, SUC]), "Refusals", table)
 
@@ -280,48 +280,48 @@ def tests_of_lists():
     strays = {name: f"by{field}" for name, field in SINGLE.items()} | {"nths": "bydayn", "weekdays": "bydayw"}
     for name, field in strays.items():
         table = RANGES[name][2]
-        yield Version(f"{name} not held to their range", Edit(REFUSALS, f"strays {name} (l .{field})", "false", []), "Refusals", table, list_of(table))
+        yield Version(f"{name} not held to their range", Edit(REFUSALS, f"strays {name} l.{field}", "false", []), "Refusals", table, list_of(table))
     for field in SINGLE.values():
         table = f"order-{field}"
-        yield Version(f"by{field} in any order", Edit(REFUSALS, f"not (rises (l .by{field}))", "false", []), "Refusals", table, list_of(table))
-    yield Version("byday in any order", Edit(REFUSALS, "not (pairsRise (l .bydayn) (l .bydayw))", "false", []), "Refusals", "order-day", "day")
-    old = "risesFrom a (x ∷ xs) = elim (ltZ a x) ["
-    yield Version("an entry twice", Edit(REFUSALS, old, "risesFrom a (x ∷ xs) = elim (not (ltZ x a)) [", []), "Refusals", "order-hour")
-    old = "pairBelow n w m v = ltZ n m || (not (ltZ m n) && ltZ w v)"
-    yield Version("a pair twice", Edit(REFUSALS, old, "pairBelow n w m v = ltZ n m || (not (ltZ m n) && not (ltZ v w))", []), "Refusals", "order-day")
-    yield Version("pairs by weekday", Edit(REFUSALS, old, "pairBelow n w m v = ltZ w v || (not (ltZ v w) && ltZ n m)", []), "Refusals", "order-day")
-    old = "mixedDays l = someEvery (l .bydayn) && someNth (l .bydayn)"
-    yield Version("every day is mixed", Edit(REFUSALS, old, "mixedDays l = someEvery (l .bydayn)", []), "Refusals", "entries-day")
-    yield Version("every nth is mixed", Edit(REFUSALS, old, "mixedDays l = someNth (l .bydayn)", []), "Refusals", "nth")
-    old = "(not (lacks (l .byweekno)) || ltb 1 freq)"
+        yield Version(f"by{field} in any order", Edit(REFUSALS, f"not (rises l.by{field})", "false", []), "Refusals", table, list_of(table))
+    yield Version("byday in any order", Edit(REFUSALS, "not (pairs_rise l.bydayn l.bydayw)", "false", []), "Refusals", "order-day", "day")
+    old = "rises_from a (x ∷ xs) = elim (lt_z a x) ["
+    yield Version("an entry twice", Edit(REFUSALS, old, "rises_from a (x ∷ xs) = elim (not (lt_z x a)) [", []), "Refusals", "order-hour")
+    old = "pair_below n w m v = lt_z n m || (not (lt_z m n) && lt_z w v)"
+    yield Version("a pair twice", Edit(REFUSALS, old, "pair_below n w m v = lt_z n m || (not (lt_z m n) && not (lt_z v w))", []), "Refusals", "order-day")
+    yield Version("pairs by weekday", Edit(REFUSALS, old, "pair_below n w m v = lt_z w v || (not (lt_z v w) && lt_z n m)", []), "Refusals", "order-day")
+    old = "mixed_days l = some_every l.bydayn && some_nth l.bydayn"
+    yield Version("every day is mixed", Edit(REFUSALS, old, "mixed_days l = some_every l.bydayn", []), "Refusals", "entries-day")
+    yield Version("every nth is mixed", Edit(REFUSALS, old, "mixed_days l = some_nth l.bydayn", []), "Refusals", "nth")
+    old = "(not (lacks l.byweekno) || ltb 1 freq)"
     for told, new in (
-        ("beside week numbers", "(ltb 1 freq)"), ("at every frequency", "(not (lacks (l .byweekno)))"),
-        ("at WEEKLY", "(not (lacks (l .byweekno)) || ltb 2 freq)"), ("not at MONTHLY", "(not (lacks (l .byweekno)) || ltb 0 freq)"),
+        ("beside week numbers", "(ltb 1 freq)"), ("at every frequency", "(not (lacks l.byweekno))"),
+        ("at WEEKLY", "(not (lacks l.byweekno) || ltb 2 freq)"), ("not at MONTHLY", "(not (lacks l.byweekno) || ltb 0 freq)"),
     ):
         yield Version(f"nth {told}", Edit(REFUSALS, old, new, []), "Refusals", "nth")
 
 
 def positions_alone():
-    whole = """    && (lacks (l .bymonth) && (lacks (l .bymonthday) && (lacks (l .byyearday) && (lacks (l .byweekno)
-    && (lacks (l .bydayn) && (lacks (l .bydayw) && (lacks (l .byhour) && (lacks (l .byminute) && lacks (l .bysecond)))))))))"""
+    whole = """    && (lacks l.bymonth && (lacks l.bymonthday && (lacks l.byyearday && (lacks l.byweekno
+    && (lacks l.bydayn && (lacks l.bydayw && (lacks l.byhour && (lacks l.byminute && lacks l.bysecond))))))))"""
     for fields in (("bymonth",), ("bymonthday",), ("byyearday",), ("byweekno",), ("bydayn", "bydayw"), ("byhour",), ("byminute",), ("bysecond",)):
         new = whole
         for field in fields:
-            new = new.replace(f"lacks (l .{field})", "true")
+            new = new.replace(f"lacks l.{field}", "true")
         yield Version(f"9 beside {fields[0]}", Edit(REFUSALS, whole, new, []), "Refusals", "positions")
 
 
 # 10, 11 and 12.
 
 OF_COUNT = (  # what is told of it, its line, the line instead, and the table
-    ("INTERVAL 0 taken", "nought interval count = eqb interval 0 || countNought count", "nought interval count = countNought count", "nought"),
+    ("INTERVAL 0 taken", "nought interval count = eqb interval 0 || count_nought count", "nought interval count = count_nought count", "nought"),
     ("INTERVAL 1 refused", "= eqb interval 0 ||", "= ltb interval 2 ||", "nought"),
-    ("COUNT 0 taken", "nought interval count = eqb interval 0 || countNought count", "nought interval count = eqb interval 0", "nought"),
-    ("COUNT 1 refused", "countNought (Count.Times n) = eqb n 0", "countNought (Count.Times n) = ltb n 2", "nought"),
-    ("an absent COUNT is 0", "countNought Count.Absent = false", "countNought Count.Absent = true", "nought"),
-    ("COUNT alone refused", "countAndUntil count Until.Absent = false", "countAndUntil count Until.Absent = hasCount count", "count-and-until"),
-    ("UNTIL alone refused", "countAndUntil count (Until.At t) = hasCount count", "countAndUntil count (Until.At t) = true", "count-and-until"),
-    ("COUNT 1 beside UNTIL taken", "hasCount (Count.Times n) = true", "hasCount (Count.Times n) = ltb 1 n", "count-and-until"),
+    ("COUNT 0 taken", "nought interval count = eqb interval 0 || count_nought count", "nought interval count = eqb interval 0", "nought"),
+    ("COUNT 1 refused", "count_nought (Count.Times n) = eqb n 0", "count_nought (Count.Times n) = ltb n 2", "nought"),
+    ("an absent COUNT is 0", "count_nought Count.Absent = false", "count_nought Count.Absent = true", "nought"),
+    ("COUNT alone refused", "count_and_until count Until.Absent = false", "count_and_until count Until.Absent = has_count count", "count-and-until"),
+    ("UNTIL alone refused", "count_and_until count (Until.At t) = has_count count", "count_and_until count (Until.At t) = true", "count-and-until"),
+    ("COUNT 1 beside UNTIL taken", "has_count (Count.Times n) = true", "has_count (Count.Times n) = ltb 1 n", "count-and-until"),
 )
 MISPLACED = {  # the list: its name, and its test
     "weekno": ("week-number", "weeknos && not (eqb freq 0)"),
@@ -342,15 +342,15 @@ def misplaced():
             here = f"eqb freq {number}"
             told, new = ("refused", f"{test} || {field}s && {here}") if may_stand(name, freq) else ("taken", f"{test} && not ({here})")
             yield Version(f"{freq}: {name} {told}", Edit(REFUSALS, test, f"({new})", []), "Refusals", table, list_of(table))
-        for told, sign in (("positive", "ltZ (pos 0)"), ("negative", "λ x. ltZ x (pos 0)")):
-            edit = Edit(REFUSALS, f"(not (lacks (l .by{field})))", f"(some ({sign}) (l .by{field}))", [])
+        for told, sign in (("positive", "lt_z (pos 0)"), ("negative", "λ x. lt_z x (pos 0)")):
+            edit = Edit(REFUSALS, f"(not (lacks l.by{field}))", f"(some ({sign}) l.by{field})", [])
             yield Version(f"{name} refused where {told} alone", edit, "Refusals", table, list_of(table))
 
 
 # The bounds of a cursor.
 
-IN_RANGE = "inRange r k = ltb (period r k .begins) (rangeEnd * 86400)"
-ENDS_OF = "period r k .ends"
+IN_RANGE = "in_range r k = ltb (period r k).begins (range_end * 86400)"
+ENDS_OF = "(period r k).ends"
 UNITS = dict(zip(FREQUENCIES, ("year", "month", "week", "day", "hour", "minute", "second")))
 
 
@@ -358,41 +358,41 @@ def cursors_by_frequency():
     for freq in FREQUENCIES:
         new = IN_RANGE.replace("= ltb", f"= {at(freq)} || ltb")
         yield Version(f"{freq}: any period", Edit(PERIODS, IN_RANGE, new, [SAME, OR]), "Cursors", f"{freq.lower()}-behind-the-last", freq)
-        new = IN_RANGE.replace("(period r k .begins)", f"(period r (if {at(freq)} then k + 1 else k) .begins)")
+        new = IN_RANGE.replace("(period r k).begins", f"(period r (if {at(freq)} then k + 1 else k)).begins")
         yield Version(f"{freq}: a period too few", Edit(PERIODS, IN_RANGE, new, [SAME, IF]), "Cursors", f"{freq.lower()}-last", freq)
-        new = f"(if {at(freq)} then period r (k + 1) .begins else {ENDS_OF})"
+        new = f"(if {at(freq)} then (period r (k + 1)).begins else {ENDS_OF})"
         uses = [SAME, IF, FREQUENCY, PLUS]
         yield Version(f"{freq}: a period's end is the next one's beginning", Edit(RUN, ENDS_OF, new, uses), "Cursors", f"beyond-{UNITS[freq]}-end", freq)
-        new = f"(if {at(freq)} then period r k .begins else {ENDS_OF})"
+        new = f"(if {at(freq)} then (period r k).begins else {ENDS_OF})"
         yield Version(f"{freq}: a period's end is its beginning", Edit(RUN, ENDS_OF, new, uses), "Cursors", f"to-{UNITS[freq]}-end", freq)
 
 
-PLACES = "leb (c .place) (length (g .kept (c .k)))"
-NUMBER = "leb (c .number) (next g c - g .start)"
-NEXT = "getD (g .kept (c .k)) (c .place) (g .ends (c .k))"
+PLACES = "leb c.place (length (g.kept c.k))"
+NUMBER = "leb c.number (next g c - g.start)"
+NEXT = "get_or (g.kept c.k) c.place (g.ends c.k)"
 BELOW_COUNT = "below (present b) n = ltb n b"
-WEEK = "week w n = ofDays (w + 7 * n) (min (w + 7 * n + 7) rangeEnd)"
-UNCUT = "week w n = ofDays (w + 7 * n) (w + 7 * n + 7)"
-FORMED = "formedIn State.Running g c = poised g c"
-ENDED = "formedIn (State.Ended cause) g c = true\n"
+WEEK = "week w n = of_days (w + 7 * n) (min (w + 7 * n + 7) range_end)"
+UNCUT = "week w n = of_days (w + 7 * n) (w + 7 * n + 7)"
+FORMED = "formed_in State.Running g c = poised g c"
+ENDED = "formed_in (State.Ended cause) g c = true\n"
 CAUSES = {"Count": "count", "Interval": "interval", "Until": "until", "NoTick": "no-tick", "Range": "range"}
 BOUNDS = (
     ("a period that begins after the last second", PERIODS, IN_RANGE, IN_RANGE.replace("ltb", "leb"), [LEB], "daily-behind-the-last"),
-    ("k wraps", PERIODS, "(k * r .interval)", "(k * r .interval % 18446744073709551616)", [], "k-without-wrapping"),
+    ("k wraps", PERIODS, "(k * r.interval)", "(k * r.interval % 18446744073709551616)", [], "k-without-wrapping"),
     ("a place too many", CURSORS, PLACES, PLACES[:-1] + " + 1)", [], "passed-beyond"),
     ("a place too many where positions choose", CURSORS, PLACES, PLACES[:-1] + " + 1)", [], "kept-passed-beyond"),
-    ("a place too few", CURSORS, PLACES, PLACES.replace("(c .place)", "(c .place + 1)"), [], "all-passed"),
-    ("a place too few where positions choose", CURSORS, PLACES, PLACES.replace("(c .place)", "(c .place + 1)"), [], "kept-passed"),
+    ("a place too few", CURSORS, PLACES, PLACES.replace("c.place", "(c.place + 1)"), [], "all-passed"),
+    ("a place too few where positions choose", CURSORS, PLACES, PLACES.replace("c.place", "(c.place + 1)"), [], "kept-passed"),
     ("COUNT reached and running", GIVEN, BELOW_COUNT, "below (present b) n = ltb n (suc b)", [SUC], "at-count"),
     ("COUNT - 1 refused", GIVEN, BELOW_COUNT, "below (present b) n = ltb (suc n) b", [SUC], "below-count"),
-    ("a number too many", CURSORS, NUMBER, "leb (c .number) (next g c - g .start + 1)", [], "beyond-next"),
-    ("a number too few", CURSORS, NUMBER, "leb (c .number + 1) (next g c - g .start)", [], "to-next"),
-    ("the candidate after the next", CURSORS, NEXT, NEXT.replace("(c .place)", "(c .place + 1)"), [], "beyond-next"),
-    ("seconds before the start count", CURSORS, NUMBER, "leb (c .number) ((next g c - g .start) + (g .start - next g c))", [], "one-before-the-start"),
-    ("a candidate before the start refused", CURSORS, NUMBER, f"(leb (g .start) (next g c) && {NUMBER})", [], "none-before-the-start"),
-    ("UNTIL counts", CURSORS, NUMBER, f"({NUMBER} && not (above (g .until) (next g c)))", [NOT, "Rattle·machine·specs.specs.Given.{above}"], "past-until"),
+    ("a number too many", CURSORS, NUMBER, "leb c.number (next g c - g.start + 1)", [], "beyond-next"),
+    ("a number too few", CURSORS, NUMBER, "leb (c.number + 1) (next g c - g.start)", [], "to-next"),
+    ("the candidate after the next", CURSORS, NEXT, NEXT.replace("c.place", "(c.place + 1)"), [], "beyond-next"),
+    ("seconds before the start count", CURSORS, NUMBER, "leb c.number ((next g c - g.start) + (g.start - next g c))", [], "one-before-the-start"),
+    ("a candidate before the start refused", CURSORS, NUMBER, f"(leb g.start (next g c) && {NUMBER})", [], "none-before-the-start"),
+    ("UNTIL counts", CURSORS, NUMBER, f"({NUMBER} && not (above g.until (next g c)))", [NOT, "Rattle.machine.specs.Given.{above}"], "past-until"),
     ("the last week isn't cut", PERIODS, WEEK, UNCUT, [], "beyond-last-week-end"),
-    ("the last week is cut a day early", PERIODS, WEEK, WEEK.replace("rangeEnd", "(rangeEnd - 1)"), [], "to-last-week-end"),
+    ("the last week is cut a day early", PERIODS, WEEK, WEEK.replace("range_end", "(range_end - 1)"), [], "to-last-week-end"),
 )
 
 
@@ -400,26 +400,26 @@ def cursor_bounds():
     for name, path, old, new, uses, case in BOUNDS:
         yield Version(name, Edit(path, old, new, uses), "Cursors", case)
     for cause, case in CAUSES.items():
-        new = "".join(f"formedIn (State.Ended Cause.{other}) g c = {'poised g c' if other == cause else 'true'}\n" for other in CAUSES)
+        new = "".join(f"formed_in (State.Ended Cause.{other}) g c = {'poised g c' if other == cause else 'true'}\n" for other in CAUSES)
         yield Version(f"ended by {cause} has to be well formed", Edit(CURSORS, ENDED, new, []), "Cursors", f"ended-by-{case}")
 
 
 # The first week.
 
-WEEKLY = "periodAfter Frequency.Weekly wkst s n = "
-WEEKS = WEEKLY + "week (weekOf wkst (dayOf s)) n"
-FIRST, BEHIND = "weekOf wkst (dayOf s) + 7 * n", "(min (weekOf wkst (dayOf s) + 7 * n + 7) rangeEnd)"
-PERIOD_AFTER = "periodAfter (r .freq) (r .wkst) (second (r .start)) (k * r .interval)"
-PERIOD = f"unfolding periodAfter\nperiod r k = {PERIOD_AFTER}"
-WITHOUT_POSITIONS = "isEmpty (r .bysetpos) && (same (r .freq) Frequency.Weekly && eqb (k * r .interval) 0)"
-WITH_POSITIONS_ALONE = f"""unfolding periodAfter isEmpty
+WEEKLY = "period_after Frequency.Weekly wkst s n = "
+WEEKS = WEEKLY + "week (week_of wkst (day_of s)) n"
+FIRST, BEHIND = "week_of wkst (day_of s) + 7 * n", "(min (week_of wkst (day_of s) + 7 * n + 7) range_end)"
+PERIOD_AFTER = "period_after r.freq r.wkst (second r.start) (k * r.interval)"
+PERIOD = f"unfolding period_after\nperiod r k = {PERIOD_AFTER}"
+WITHOUT_POSITIONS = "is_empty r.bysetpos && (same r.freq Frequency.Weekly && eqb (k * r.interval) 0)"
+WITH_POSITIONS_ALONE = f"""unfolding period_after is_empty
 period r k =
     let p : Period = {PERIOD_AFTER} in
-    record {{ begins = if {WITHOUT_POSITIONS} then dayOf (second (r .start)) * 86400 else p .begins; ends = p .ends }}"""
-AT_CANDIDATE = "atCandidate g x c = elim (late g x) ["
+    record {{ begins = if {WITHOUT_POSITIONS} then day_of (second r.start) * 86400 else p.begins; ends = p.ends }}"""
+AT_CANDIDATE = "at_candidate g x c = elim (late g x) ["
 PASSED = "| true ↦ leaves (pass c)"
 FULL = "walk g (x ∷ xs) s = elim (full s) ["
-TO_THE_END = f"({NUMBER} || ltb (next g c) (g .start) && leb (c .number) (g .ends (c .k) - g .start))"
+TO_THE_END = f"({NUMBER} || ltb (next g c) g.start && leb c.number (g.ends c.k - g.start))"
 WEEK_STARTS = ("monday", "tuesday", "wednesday", "thursday", "friday", "saturday", "sunday")
 CUT_BY_THE_START = tuple(f"from-{a}-on-{b}" for a in WEEK_STARTS for b in WEEK_STARTS if a != b)
 FROM_THE_WEEK_START = tuple(f"from-{day}-on-{day}" for day in WEEK_STARTS[1:])
@@ -430,29 +430,29 @@ UNTIL_BEFORE = ("until-among-those-before", "until-before-the-first")
 AT_PLACES = ("place-0", "place-1", "place-1-beyond", "place-2", "place-2-beyond", "place-3", "without-positions")
 AT_PLACES_OF_1970 = ("in-1970-place-0", "in-1970-place-1", "in-1970-place-1-beyond", "in-1970-place-2", "december-alone")
 FIRST_WEEKS = (  # what is told of it, its place and text, the text instead, what that uses, and the cases
-    ("it begins on the start's day", PERIODS, WEEKS, f"{WEEKLY}ofDays (if eqb n 0 then dayOf s else {FIRST}) {BEHIND}", [IF, EQB],
+    ("it begins on the start's day", PERIODS, WEEKS, f"{WEEKLY}of_days (if eqb n 0 then day_of s else {FIRST}) {BEHIND}", [IF, EQB],
      CUT_BY_THE_START + EVERY_OTHER + SECOND_IN_1970 + MONDAY_OF_1969 + UNTIL_BEFORE + AT_PLACES + AT_PLACES_OF_1970
      + ("first-alone", "every-other-week", "in-1970-first", "in-9999-first", "in-9999-place-0", "in-9999-place-1")),
-    ("seven days from the start", PERIODS, WEEKS, f"{WEEKLY}week (dayOf s) n", [],
+    ("seven days from the start", PERIODS, WEEKS, f"{WEEKLY}week (day_of s) n", [],
      ("first-alone", "from-thursday-on-sunday", "place-3-beyond", "in-1970-place-2-beyond")),
-    ("later ones begin on the start's weekday", PERIODS, WEEKS, f"{WEEKLY}ofDays (if eqb n 0 then {FIRST} else dayOf s + 7 * n) {BEHIND}", [IF, EQB],
+    ("later ones begin on the start's weekday", PERIODS, WEEKS, f"{WEEKLY}of_days (if eqb n 0 then {FIRST} else day_of s + 7 * n) {BEHIND}", [IF, EQB],
      EVERY_OTHER + ("first-alone", "in-1970-first")),
-    ("from Monday", PERIODS, WEEKS, f"{WEEKLY}week (weekOf 0 (dayOf s)) n", [], FROM_THE_WEEK_START
+    ("from Monday", PERIODS, WEEKS, f"{WEEKLY}week (week_of 0 (day_of s)) n", [], FROM_THE_WEEK_START
      + ("every-other-week-from-wednesday", "in-1970-from-tuesday", "in-1970-from-wednesday", "in-1970-from-thursday", "in-1970-from-thursday-second")),
-    ("from Sunday", PERIODS, WEEKS, f"{WEEKLY}week (weekOf 6 (dayOf s)) n", [], ("from-monday-on-monday",)),
+    ("from Sunday", PERIODS, WEEKS, f"{WEEKLY}week (week_of 6 (day_of s)) n", [], ("from-monday-on-monday",)),
     ("whole with BYSETPOS alone", PERIODS, PERIOD, WITH_POSITIONS_ALONE, [IF, EQB, AND, SAME, IS_EMPTY], MONDAY_OF_1969 + AT_PLACES + AT_PLACES_OF_1970),
     ("days of 1969 cut off", PERIODS, WEEK, WEEK.replace("(w + 7 * n) ", "(max (w + 7 * n) 719162) "), [MAX],
      SECOND_IN_1970 + MONDAY_OF_1969 + AT_PLACES_OF_1970 + ("in-1970-first",)),
-    ("days of 1969 judged as 1 January 1970", DAYS, "(dateOf d) d", "(dateOf (max d 719162)) d", [MAX], ("january-alone", "december-alone")),
-    ("beginning in 1969 it is out of range", PERIODS, IN_RANGE, IN_RANGE.replace("= ", "= leb (719162 * 86400) (period r k .begins) && "), [LEB, AND],
+    ("days of 1969 judged as 1 January 1970", DAYS, "(date_of d) d", "(date_of (max d 719162)) d", [MAX], ("january-alone", "december-alone")),
+    ("beginning in 1969 it is out of range", PERIODS, IN_RANGE, IN_RANGE.replace("= ", "= leb (719162 * 86400) (period r k).begins && "), [LEB, AND],
      SECOND_IN_1970 + MONDAY_OF_1969),
     ("not cut at the end", PERIODS, WEEK, UNCUT, [], ("in-9999-cut", "in-9999-place-1-beyond")),
-    ("cut a day early", PERIODS, WEEK, WEEK.replace("rangeEnd", "(rangeEnd - 1)"), [], ("in-9999-last", "in-9999-cut", "in-9999-place-1")),
+    ("cut a day early", PERIODS, WEEK, WEEK.replace("range_end", "(range_end - 1)"), [], ("in-9999-last", "in-9999-cut", "in-9999-place-1")),
     ("a place too many", CURSORS, PLACES, PLACES[:-1] + " + 1)", [], ("place-4", "december-beyond")),
-    ("the number wraps", CURSORS, NUMBER, f"(ltb (next g c) (g .start) || {NUMBER})", [OR, LTB], ("place-0-beyond", "in-1970-place-0-beyond")),
+    ("the number wraps", CURSORS, NUMBER, f"(ltb (next g c) g.start || {NUMBER})", [OR, LTB], ("place-0-beyond", "in-1970-place-0-beyond")),
     ("the number to the week's end", CURSORS, NUMBER, TO_THE_END, [OR, LTB], ("place-0-beyond", "in-9999-place-0")),
     ("UNTIL not looked at before the start", TURNS, AT_CANDIDATE, AT_CANDIDATE.replace("late g x", "late g x && not (early g x)"), [AND, NOT], UNTIL_BEFORE),
-    ("handed out before the start", TURNS, PASSED, PASSED.replace("leaves (pass c)", "hands x (counted g (handOut (pass c)))"), [],
+    ("handed out before the start", TURNS, PASSED, PASSED.replace("leaves (pass c)", "hands x (counted g (hand_out (pass c)))"), [],
      MONDAY_OF_1969 + ("without-positions",)),
     ("the place counts from the start", TURNS, PASSED, PASSED.replace("pass c", "c"), [], MONDAY_OF_1969 + ("without-positions",)),
     ("passed though the buffer is full", WALKS, FULL, FULL.replace("full s", "full s && not (early g x)"), [AND, NOT, EARLY], ("without-room",)),
@@ -467,11 +467,11 @@ def first_weeks():
 
 def faults():
     old = "| false ↦ refuse Fault.Record c x"
-    new = "| false ↦ elim (wellFormed g c) [ false ↦ refuse Fault.Cursor c x | true ↦ refuse Fault.Record c x ]"
+    new = "| false ↦ elim (well_formed g c) [ false ↦ refuse Fault.Cursor c x | true ↦ refuse Fault.Record c x ]"
     yield Version("21 before 20", Edit(CALLS, old, new, []), "Faults", "record-before-cursor")
     old = "| false ↦ refuse Fault.Cursor c x"
     yield Version("a bad cursor called a bad record", Edit(CALLS, old, "| false ↦ refuse Fault.Record c x", []), "Faults", "cursor-21")
-    yield Version("every running cursor refused", Edit(CURSORS, FORMED, "formedIn State.Running g c = false", []), "Faults", "neither")
+    yield Version("every running cursor refused", Edit(CURSORS, FORMED, "formed_in State.Running g c = false", []), "Faults", "neither")
 
 
 def versions():
