@@ -1,5 +1,6 @@
 -- Dates: a day and its date go back and forth.
 -- Assumes nothing.
+use Rattle.std.specs.Prelude.{if◌then◌else◌}
 use mathlib.Core.Path.{◌≡◌, refl, ◌∙◌, ap}
 use mathlib.Core.Bool.{Bool, true, false, ◌&&◌}
 use mathlib.Core.List.{[]}
@@ -8,7 +9,7 @@ use native.Mathlib.Omega.{arith}
 use lib.Dec.{leb, ltb}
 use borrow.Author.Tests.{le-leb, ltb-true}
 use Rattle.calendar.specs.declared.utils.Date.{Date}
-use Rattle.calendar.specs.Calendar.{if◌then◌else◌, leap, days_of, new_year, year_of, month_length, days_before_month, first_of, day_of_date, MonthDay, no_day}
+use Rattle.calendar.specs.Calendar.{leap, days_of, new_year, year_of, month_length, days_before_month, first_of, day_of_date, MonthDay, no_day}
 use Rattle.calendar.specs.Calendar.{month_day_of, tab, date_in, year_day, date_of}
 use Rattle.calendar.specs.Claims.{DateIs, DayOfItsDate, DateOfItsDay}
 use Rattle.calendar.proofs.Table.{same_below}

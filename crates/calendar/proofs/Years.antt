@@ -1,5 +1,6 @@
 -- Years: one follows the other by the leap rule, each day lies in one, and 400 of them are whole weeks.
 -- Assumes nothing.
+use Rattle.std.specs.Prelude.{if◌then◌else◌}
 use mathlib.Core.Path.{◌≡◌, refl, subst}
 use mathlib.Core.Bool.{Bool, true, false, not, ◌&&◌, ◌||◌}
 use Prim.Native.Nat.{ℕ, zero, suc, ◌+◌, ◌-◌, ◌*◌, ◌/◌, ◌%◌, ◌≤◌, ◌<◌}
@@ -9,7 +10,7 @@ use native.Mathlib.Decide.{dec_lt}
 use native.Mathlib.Numerals.{add-one}
 use lib.Dec.{eqb, ltb}
 use borrow.Author.Tests.{eqb-true, eqb-false, ltb-true, ltb-false}
-use Rattle.calendar.specs.Calendar.{if◌then◌else◌, leap, days_of, year_length, days_of_years, new_year, year_from, year_of, year_day}
+use Rattle.calendar.specs.Calendar.{leap, days_of, year_length, days_of_years, new_year, year_from, year_of, year_day}
 use Rattle.calendar.specs.Claims.{NewYearIs, YearsFollow, InYear, YearOfIs, OneYear, PlaceIs, OnePlace, FourCenturies, LeapYearsComeRound, WeekdaysComeRound}
 
 -- a ≢ would cost omega a case split each, and it has six

@@ -1,12 +1,7 @@
 -- The proleptic Gregorian calendar, from its rules. A day is a number of days since 0001-01-01, a Monday.
 -- Assumes nothing.
-use Rattle.std.specs.Prelude.{ℕ, zero, suc, ◌+◌, ◌-◌, ◌*◌, ◌/◌, ◌%◌, Bool, true, false, not, ◌&&◌, ◌||◌, List, [], ◌∷◌, take, get_or, eqb, ltb}
+use Rattle.std.specs.Prelude.{if◌then◌else◌, ℕ, zero, suc, ◌+◌, ◌-◌, ◌*◌, ◌/◌, ◌%◌, Bool, true, false, not, ◌&&◌, ◌||◌, List, [], ◌∷◌, take, get_or, eqb, ltb}
 use Rattle.calendar.specs.declared.utils.Date.{Date}
-
-infix 1 if◌then◌else◌
-abbrev pub if◌then◌else◌ : {A : Type 0} → Bool → A → A → A
-if true then a else b = a
-if false then a else b = b
 
 -- every fourth year is a leap year, but of the hundreds only every fourth
 unfoldable pub leap : ℕ → Bool

@@ -1,5 +1,6 @@
 -- Rows: what is written into them, and what is read.
 -- Assumes nothing.
+use Rattle.std.specs.Prelude.{if◌then◌else◌}
 use Prim.Native.Nat.{ℕ, zero, suc, ◌+◌, ◌≤◌, ◌<◌}
 use mathlib.Core.Path.{◌≡◌, refl, sym, ◌∙◌, ap}
 use mathlib.Core.Bool.{Bool, true, false, ◌||◌}
@@ -8,7 +9,6 @@ use native.Mathlib.Numerals.{add-one}
 use native.Mathlib.Omega.{arith}
 use lib.ListN.{length, get_or, set, take, replicate, length-set, length-append, length-replicate, get_or-replicate}
 use lib.Seq.{get_or-set_same, get_or-set_other, take-suc, take_all, length-take-le}
-use Rattle.calendar.specs.Calendar.{if◌then◌else◌}
 use Rattle.rule.specs.Lists.{is_empty}
 use Rattle.rule.specs.Candidates.{gather, only}
 use Rattle.clocks.specs.Blocks.{passing}

@@ -1,5 +1,6 @@
 -- The time sets are what the meaning of a rule asks: as many times as the period has, and each of them by its number.
 -- Assumes nothing.
+use Rattle.std.specs.Prelude.{if◌then◌else◌}
 use Prim.Native.Nat.{ℕ, zero, suc, ◌+◌, ◌*◌, ◌/◌, ◌%◌, ◌≤◌, ◌<◌}
 use mathlib.Core.Path.{◌≡◌, refl, sym, ◌∙◌, ap}
 use mathlib.Core.Bool.{Bool, true, false, ◌||◌}
@@ -9,7 +10,6 @@ use lib.Dec.{leb}
 use lib.IntN.{pos}
 use lib.ListN.{length, get_or, replicate, get_or-replicate}
 use borrow.Author.Tests.{le-leb, lt-ltb}
-use Rattle.calendar.specs.Calendar.{if◌then◌else◌}
 use Rattle.rule.specs.declared.rrule.Frequency.{Frequency}
 use Rattle.rule.specs.declared.rrule.Rule.{Rule}
 use Rattle.rule.specs.Instants.{hour_of, minute_of, second_of}

@@ -1,7 +1,6 @@
 -- The time sets of a rule. Hours, minutes and seconds stand in rows of 144 places: hour h at h, minute m at 24 + m, second s at 84 + s.
 -- Assumes nothing.
-use Rattle.std.specs.Prelude.{ℕ, ◌+◌, ◌%◌, Bool, true, false, List, [], ◌∷◌, length, get_or, set, replicate}
-use Rattle.calendar.specs.Calendar.{if◌then◌else◌}
+use Rattle.std.specs.Prelude.{ℕ, ◌+◌, ◌%◌, Bool, true, false, List, [], ◌∷◌, length, get_or, set, replicate, if◌then◌else◌}
 use Rattle.rule.specs.declared.rrule.Rule.{Rule}
 use Rattle.rule.specs.Lists.{is_empty}
 use Rattle.times.specs.declared.iterinfo.Counts.{Counts}

@@ -1,5 +1,6 @@
 -- An entry of BYDAY, by its number and its weekday.
 -- Assumes nothing.
+use Rattle.std.specs.Prelude.{if◌then◌else◌}
 use Prim.Native.Nat.{ℕ, ◌≤◌}
 use native.Mathlib.Omega.{arith}
 use mathlib.Core.Path.{◌≡◌, refl, sym, ap, subst, ◌∙◌}
@@ -7,7 +8,6 @@ use mathlib.Core.Bool.{Bool, true, false}
 use mathlib.Core.List.{List, [], ◌∷◌}
 use lib.ListN.{length, drop}
 use lib.IntN.{ℤ, pos}
-use Rattle.calendar.specs.Calendar.{if◌then◌else◌}
 use Rattle.symbols.specs.Languages.{Both, both}
 use Rattle.symbols.specs.Takes.{Took, took}
 use Rattle.symbols.specs.Readers.{with_first, followed, perhaps}

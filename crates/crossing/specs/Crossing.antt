@@ -1,7 +1,6 @@
 -- The walk over a period's candidates, where it may be.
 -- Assumes nothing.
-use Rattle.std.specs.Prelude.{ℕ, ◌+◌, ◌*◌, ◌≤◌, ◌≡◌, Bool, ◌&&◌, List, length}
-use Rattle.calendar.specs.Calendar.{if◌then◌else◌}
+use Rattle.std.specs.Prelude.{ℕ, ◌+◌, ◌*◌, ◌≤◌, ◌≡◌, Bool, ◌&&◌, List, length, if◌then◌else◌}
 use Rattle.machine.specs.declared.State.{State}
 use Rattle.machine.specs.Compute as compute
 use Rattle.walks.specs.declared.rrule_iter.Held.{Held}

@@ -1,5 +1,6 @@
 -- Bytes of the length that is asked for, and others.
 -- Assumes nothing.
+use Rattle.std.specs.Prelude.{if◌then◌else◌}
 use Prim.Native.Nat.{ℕ, zero, suc, ◌≤◌}
 use mathlib.Core.Path.{◌≡◌, refl, sym, ap, ◌∙◌}
 use mathlib.Core.Bool.{Bool, true, false}
@@ -7,7 +8,6 @@ use mathlib.Core.List.{List, [], ◌∷◌}
 use lib.Dec.{eqb}
 use native.Mathlib.Omega.{arith}
 use lib.ListN.{length, set}
-use Rattle.calendar.specs.Calendar.{if◌then◌else◌}
 use borrow.Author.Tests.{eqb-true, eqb-false, eq-eqb, ne_eqb}
 use Rattle.machine.specs.declared.Cursor.{Cursor}
 use Rattle.edge.specs.Layout.{Decoded.holds, cursor_in, is_cursor_bytes, decode_cursor}

@@ -1,7 +1,6 @@
 -- Bytes of any length: only those of the length that is asked for are read or written.
 -- Assumes nothing.
-use Rattle.std.specs.Prelude.{ℕ, Bool, true, false, List, [], eqb, length}
-use Rattle.calendar.specs.Calendar.{if◌then◌else◌}
+use Rattle.std.specs.Prelude.{ℕ, Bool, true, false, List, [], eqb, length, if◌then◌else◌}
 
 -- what is read: bytes of another length count as none
 unfoldable pub of_length : ℕ → List ℕ → List ℕ

@@ -1,5 +1,6 @@
 -- The day test by tables and masks is document 01's.
 -- Assumes nothing.
+use Rattle.std.specs.Prelude.{if◌then◌else◌}
 use Prim.Native.Nat.{ℕ, zero, suc, ◌+◌, ◌-◌, ◌/◌, ◌%◌, ◌*◌, min, ◌≤◌, ◌<◌}
 use mathlib.Core.Path.{◌≡◌, refl, sym, ap, ◌∙◌}
 use mathlib.Core.Bool.{Bool, true, false, not, ◌&&◌, ◌||◌}
@@ -9,7 +10,7 @@ use lib.Seq.{get_or-take, get_or-drop}
 use native.Mathlib.Omega.{arith}
 use native.Mathlib.Decide.{dec_lt}
 use borrow.Author.Tests.{lt-ltb, le-leb, not-false}
-use Rattle.calendar.specs.Calendar.{if◌then◌else◌, leap, days_of, year_length, new_year, year_of, date_in, date_of, weekday}
+use Rattle.calendar.specs.Calendar.{leap, days_of, year_length, new_year, year_of, date_in, date_of, weekday}
 use Rattle.calendar.specs.Calendar.{MonthDay, no_day, month_day_of, from_end, table_day, month_table, month_day_table, from_end_table}
 use Rattle.calendar.proofs.Table.{same_below}
 use Rattle.calendar.proofs.Years.{years_follow, one_place}

@@ -1,12 +1,12 @@
 -- A place that is kept unless it is filtered out: one step of a day set that is written into a buffer.
 -- Assumes nothing.
+use Rattle.std.specs.Prelude.{if◌then◌else◌}
 use Prim.Native.Nat.{ℕ, ◌+◌, ◌<◌}
 use mathlib.Core.Path.{◌≡◌, sym}
 use mathlib.Core.Bool.{Bool, true, false, not}
 use mathlib.Core.List.{List}
 use lib.ListN.{set}
 use borrow.Author.Tests.{not-true, not-false}
-use Rattle.calendar.specs.Calendar.{if◌then◌else◌}
 use Rattle.plain.proofs.Filling.{Filling, fill_no, fill_yes}
 
 module _ (p : ℕ → Bool) (end : ℕ) (xs b₀ b : List ℕ) (count place : ℕ) where

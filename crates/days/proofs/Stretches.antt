@@ -1,5 +1,6 @@
 -- A day set where one list is asked: its test alone decides, and the stretch ends with the year's tables.
 -- Assumes nothing.
+use Rattle.std.specs.Prelude.{if◌then◌else◌}
 use Prim.Native.Nat.{ℕ, zero, suc, ◌+◌, ◌-◌, ◌%◌, min, ◌≤◌, ◌<◌}
 use mathlib.Core.Path.{◌≡◌, refl, sym, ap, ◌∙◌}
 use mathlib.Core.Bool.{Bool, true, false, not, ◌&&◌, ◌||◌}
@@ -9,7 +10,7 @@ use lib.Seq.{sets}
 use native.Mathlib.Omega.{arith}
 use native.Mathlib.Decide.{dec_lt}
 use borrow.Author.Tests.{lt-ltb, le-ltb, not-true, not-false}
-use Rattle.calendar.specs.Calendar.{if◌then◌else◌, days_of}
+use Rattle.calendar.specs.Calendar.{days_of}
 use Rattle.rule.specs.Candidates.{gather}
 use Rattle.rule.proofs.GivenLaws.{neither}
 use Rattle.clocks.specs.Blocks.{passing}

@@ -1,9 +1,9 @@
 // Day sets.
-ghost use Rattle.std.specs.Prelude.{◌≡◌, ◌+◌, ◌≤◌, ◌<◌, min, length, set};
+ghost use Rattle.std.specs.Prelude.{◌≡◌, ◌+◌, ◌≤◌, ◌<◌, min, length, set, if◌then◌else◌};
 ghost use Rattle.std.proofs.lemmas.List.Edits.{sets};
 ghost use Rattle.years.specs.Info.{info_by};
 ghost use Rattle.days.specs.Filters.{day_lists};
-ghost use Rattle.calendar.specs.Calendar.{if◌then◌else◌, days_of};
+ghost use Rattle.calendar.specs.Calendar.{days_of};
 ghost use Rattle.days.specs.DaySets.{day_set, some_of_four, FirstMarked, has_every, marked_days, year_days, weekday_days, sole_days};
 
 use crate::filters::{is_filtered, is_filtered_by_year_day, is_filtered_on};

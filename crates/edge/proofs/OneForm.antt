@@ -1,5 +1,6 @@
 -- Bytes that hold a record, or a cursor, are those that are written of it.
 -- Assumes nothing.
+use Rattle.std.specs.Prelude.{if◌then◌else◌}
 use Prim.Native.Nat.{ℕ, ◌+◌, ◌≤◌, ◌<◌}
 use mathlib.Core.Path.{◌≡◌, refl, sym, ap, ◌∙◌}
 use mathlib.Core.Bool.{Bool, true, false, ◌&&◌, ◌||◌}
@@ -8,7 +9,6 @@ use native.Mathlib.Omega.{arith}
 use lib.Dec.{eqb, leb}
 use lib.ListN.{length, get_or, drop, drop_of_length-le}
 use borrow.Author.Tests.{leb-true, eqb-true}
-use Rattle.calendar.specs.Calendar.{if◌then◌else◌}
 use Rattle.calendar.proofs.Table.{same_below}
 use Rattle.rule.specs.Filling.{frequency_number, frequency}
 use Rattle.edge.specs.Bytes.{two_at, four_at, eight_at, four, eight, are_flags, flags_at, flag_bytes}

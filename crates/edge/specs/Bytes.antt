@@ -1,7 +1,6 @@
 -- Numbers and flags as bytes. A number has its lowest byte first. A flag is one byte, 0 or 1.
 -- Assumes nothing.
-use Rattle.std.specs.Prelude.{ℕ, ◌+◌, ◌*◌, ◌/◌, ◌%◌, Bool, true, ◌&&◌, List, [], ◌∷◌, ◌++◌, map, eqb, leb, get_or}
-use Rattle.calendar.specs.Calendar.{if◌then◌else◌}
+use Rattle.std.specs.Prelude.{ℕ, ◌+◌, ◌*◌, ◌/◌, ◌%◌, Bool, true, ◌&&◌, List, [], ◌∷◌, ◌++◌, map, eqb, leb, get_or, if◌then◌else◌}
 use Rattle.rule.specs.Lists.{flags}
 
 -- the number that stands in two, four or eight bytes from place i on

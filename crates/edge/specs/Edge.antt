@@ -1,7 +1,6 @@
 -- What C is answered, and what it finds in the bytes that it lent. A refused call leaves every byte and every slot as it was.
 -- Assumes nothing.
-use Rattle.std.specs.Prelude.{ℕ, Bool, true, false, not, List, eqb, length}
-use Rattle.calendar.specs.Calendar.{if◌then◌else◌}
+use Rattle.std.specs.Prelude.{ℕ, Bool, true, false, not, List, eqb, length, if◌then◌else◌}
 use Rattle.machine.specs.declared.Stop.{Stop}
 use Rattle.machine.specs.declared.Cursor.{Cursor}
 use Rattle.machine.specs.declared.Answer.{Answer}

@@ -1,7 +1,6 @@
 -- Whether a running cursor fits its period: the parts of the test whether it is well formed.
 -- Assumes nothing.
-use Rattle.std.specs.Prelude.{ℕ, ◌+◌, ◌-◌, ◌*◌, ◌/◌, Bool, ◌&&◌, ◌||◌, List, get_or, leb, ltb}
-use Rattle.calendar.specs.Calendar.{if◌then◌else◌}
+use Rattle.std.specs.Prelude.{ℕ, ◌+◌, ◌-◌, ◌*◌, ◌/◌, Bool, ◌&&◌, ◌||◌, List, get_or, leb, ltb, if◌then◌else◌}
 use Rattle.machine.specs.declared.Cursor.{Cursor}
 use Rattle.machine.specs.Given.{below}
 use Rattle.rule.specs.declared.rrule.Frequency.{Frequency}

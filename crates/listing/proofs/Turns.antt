@@ -1,5 +1,6 @@
 -- One turn of the run's loop: what is opened is the rule's own period, and what is walked are its kept candidates.
 -- Assumes nothing.
+use Rattle.std.specs.Prelude.{if◌then◌else◌}
 use Prim.Native.Nat.{ℕ, ◌+◌, ◌-◌, ◌*◌, ◌^◌, ◌≤◌, ◌<◌}
 use mathlib.Core.Path.{◌≡◌, refl, sym, ap, ◌∙◌, subst}
 use mathlib.Core.Bool.{Bool, true, false, ◌&&◌, ◌||◌}
@@ -10,7 +11,7 @@ use lib.Dec.{ltb, leb}
 use native.Mathlib.Omega.{arith}
 use native.Mathlib.Decide.{ℕ_discrete}
 use borrow.Author.Tests.{leb-true, lt-leb, ltb-true}
-use Rattle.calendar.specs.Calendar.{if◌then◌else◌, new_year, year_of}
+use Rattle.calendar.specs.Calendar.{new_year, year_of}
 use Rattle.machine.specs.declared.Cause.{Cause}
 use Rattle.machine.specs.declared.State.{State}
 use Rattle.machine.specs.declared.Fault.{Fault}

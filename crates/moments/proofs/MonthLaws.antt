@@ -1,5 +1,6 @@
 -- The lengths of months, by the month's number.
 -- Assumes nothing.
+use Rattle.std.specs.Prelude.{if◌then◌else◌}
 use Prim.Native.Nat.{ℕ, zero, suc, ◌≤◌, ◌<◌}
 use native.Mathlib.Omega.{arith}
 use mathlib.Core.Path.{◌≡◌, refl, ap, ◌∙◌}
@@ -7,7 +8,7 @@ use mathlib.Core.Logic.{◌⊎◌, inl, inr}
 use mathlib.Core.Bool.{Bool, true, false, ◌||◌}
 use lib.Dec.{eqb, leb}
 use borrow.Author.Tests.{leb-true, ne_eqb}
-use Rattle.calendar.specs.Calendar.{if◌then◌else◌, month_length}
+use Rattle.calendar.specs.Calendar.{month_length}
 use Rattle.calendar.proofs.Table.{same_below}
 
 pub length_at : {long b : Bool} {m n : ℕ} → long ≡ b → m ≡ n → month_length long m ≡ month_length b n

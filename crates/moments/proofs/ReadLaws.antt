@@ -1,5 +1,6 @@
 -- What is answered where one reader stands behind another: where the first stops both do, and behind a whole first only the second is left.
 -- Assumes nothing.
+use Rattle.std.specs.Prelude.{if◌then◌else◌}
 use Prim.Native.Nat.{ℕ, ◌+◌}
 use native.Mathlib.Omega.{arith}
 use mathlib.Core.Path.{◌≡◌, refl, sym, ap, ◌∙◌}
@@ -8,7 +9,6 @@ use mathlib.Core.List.{List, [], ◌∷◌}
 use lib.ListN.{drop}
 use lib.Dec.{eqb}
 use borrow.Author.Tests.{eqb-true, eqb-false, eq-eqb, ne_eqb}
-use Rattle.calendar.specs.Calendar.{if◌then◌else◌}
 use Rattle.symbols.specs.Languages.{Both, both}
 use Rattle.symbols.specs.Takes.{Took, took, Takes}
 use Rattle.symbols.specs.Readers.{byte, with_first, followed, turned_into, turned, head_is}

@@ -1,5 +1,6 @@
 -- A step of the code, from where it sets off to where it lands.
 -- Assumes nothing.
+use Rattle.std.specs.Prelude.{if◌then◌else◌}
 use Prim.Native.Nat.{ℕ, ◌+◌, ◌-◌, ◌*◌, ◌≤◌, ◌<◌}
 use mathlib.Core.Path.{◌≡◌, refl, sym, ap, ◌∙◌}
 use mathlib.Core.Bool.{Bool, true, false, ◌&&◌}
@@ -7,7 +8,6 @@ use mathlib.Core.List.{List}
 use native.Mathlib.Nat.{mul-le-mul, zero-div, div-le_self, div-mul-le_self}
 use native.Mathlib.Omega.{arith}
 use borrow.Author.Tests.{ltb-true, leb-true, lt-ltb, le-leb}
-use Rattle.calendar.specs.Calendar.{if◌then◌else◌}
 use Rattle.machine.specs.Given.{Move.To}
 use Rattle.rule.specs.declared.rrule.Frequency.{Frequency}
 use Rattle.rule.specs.Filling.{is_below}

@@ -1,8 +1,7 @@
 // The increments of a counter.
-ghost use Rattle.std.specs.Prelude.{◌≡◌, false, ◌+◌, ◌-◌, ◌*◌, ◌/◌, ◌%◌, ◌<◌, ◌≤◌};
+ghost use Rattle.std.specs.Prelude.{◌≡◌, false, ◌+◌, ◌-◌, ◌*◌, ◌/◌, ◌%◌, ◌<◌, ◌≤◌, if◌then◌else◌};
 ghost use Rattle.rule.specs.Moves.{ticks};
 ghost use Rattle.periods.specs.Counters.{limit_of};
-ghost use Rattle.calendar.specs.Calendar.{if◌then◌else◌};
 ghost use Rattle.periods.specs.declared.counter_date.Reached.{Reached};
 ghost use Rattle.ticks.specs.Ticks.{tick_on, first_tick};
 ghost use Rattle.moves.specs.Increments.{ahead, skipped, below, arrive, fits, incremented};

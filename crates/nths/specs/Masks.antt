@@ -1,7 +1,7 @@
 -- The days of a year, and the seven days after it, by their places from 0 on; and the mask of the nth weekdays among them.
 -- Assumes nothing.
-use Rattle.std.specs.Prelude.{ℕ, ◌+◌, ◌-◌, Bool, ◌&&◌, List, ltb}
-use Rattle.calendar.specs.Calendar.{if◌then◌else◌, days_of, table_day, weekday}
+use Rattle.std.specs.Prelude.{ℕ, ◌+◌, ◌-◌, Bool, ◌&&◌, List, ltb, if◌then◌else◌}
+use Rattle.calendar.specs.Calendar.{days_of, table_day, weekday}
 use Rattle.rule.specs.Lists.{flags}
 use Rattle.rule.specs.Days.{nth_passes}
 use Rattle.weeks.specs.declared.yearinfo.Year.{Year}

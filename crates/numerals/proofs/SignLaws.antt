@@ -1,5 +1,6 @@
 -- A number with a sign before it.
 -- Assumes nothing.
+use Rattle.std.specs.Prelude.{if◌then◌else◌}
 use Prim.Native.Nat.{ℕ, ◌+◌}
 use native.Mathlib.Omega.{arith}
 use mathlib.Core.Path.{◌≡◌, refl, sym, ap, ◌∙◌}
@@ -8,7 +9,6 @@ use mathlib.Core.List.{List, [], ◌∷◌}
 use lib.ListN.{drop}
 use lib.Dec.{eqb}
 use lib.IntN.{pos}
-use Rattle.calendar.specs.Calendar.{if◌then◌else◌}
 use Rattle.symbols.specs.Languages.{is_digit, Both, both}
 use Rattle.symbols.specs.Takes.{Took, took}
 use Rattle.symbols.specs.Readers.{digits, byte, with_first, followed, perhaps, turned_into, head_is}

@@ -1,5 +1,6 @@
 -- Numbers of 16 bits with a sign, from their sizes.
 -- Assumes nothing.
+use Rattle.std.specs.Prelude.{if◌then◌else◌}
 use Prim.Native.Nat.{ℕ, zero, suc, ◌≤◌}
 use native.Mathlib.Omega.{arith}
 use mathlib.Core.Path.{◌≡◌, refl}
@@ -8,7 +9,6 @@ use lib.IntN.{pos, negsuc, ◌-ℤ◌, +ℤ_idl}
 use mir.Syntax.{w16}
 use mir.Val.{SFits, to_z, of_z}
 use mir.ValLaws.{to_z-of_z}
-use Rattle.calendar.specs.Calendar.{if◌then◌else◌}
 use Rattle.recur.specs.Grammar.{below}
 
 pub small : (n : ℕ) → n ≤ 999 → to_z w16 n ≡ pos n

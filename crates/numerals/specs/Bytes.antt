@@ -1,7 +1,6 @@
 -- The byte at a place of a text, and an entry of a list from its size and its sign.
 -- Assumes nothing.
-use Rattle.std.specs.Prelude.{ℕ, ◌≤◌, ◌<◌, Bool, false, List, [], ◌∷◌, length, get_or, pos}
-use Rattle.calendar.specs.Calendar.{if◌then◌else◌}
+use Rattle.std.specs.Prelude.{ℕ, ◌≤◌, ◌<◌, Bool, false, List, [], ◌∷◌, length, get_or, pos, if◌then◌else◌}
 use Rattle.recur.specs.declared.Reached.{Reached}
 use Rattle.recur.specs.declared.ReachedEntry.{ReachedEntry}
 use Rattle.recur.specs.Grammar.{below}

@@ -1,8 +1,7 @@
 // Numbers in digits, with or without a sign, each read as far as some number of its kind goes.
 #![tactic(auto)]
 
-ghost use Rattle.std.specs.Prelude.{◌≡◌, [], ◌+◌, ◌-◌, ◌*◌, ◌≤◌, length, drop, get_or, pos};
-ghost use Rattle.calendar.specs.Calendar.{if◌then◌else◌};
+ghost use Rattle.std.specs.Prelude.{◌≡◌, [], ◌+◌, ◌-◌, ◌*◌, ◌≤◌, length, drop, get_or, pos, if◌then◌else◌};
 ghost use Rattle.symbols.specs.Languages.{is_digit};
 ghost use Rattle.symbols.specs.Takes.{took};
 ghost use Rattle.symbols.specs.Readers.{may_take, digits, head_is};

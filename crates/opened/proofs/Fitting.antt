@@ -1,5 +1,6 @@
 -- A cursor fits its period, which is opened, exactly where it is well formed.
 -- Assumes nothing.
+use Rattle.std.specs.Prelude.{if◌then◌else◌}
 use Prim.Native.Nat.{ℕ, ◌+◌, ◌-◌, ◌≤◌, ◌<◌}
 use mathlib.Core.Path.{◌≡◌, refl, sym, ap, ◌∙◌}
 use mathlib.Core.Bool.{Bool, true, false, ◌&&◌}
@@ -8,7 +9,6 @@ use native.Mathlib.Omega.{arith}
 use lib.Dec.{leb, ltb}
 use lib.ListN.{length, get_or, get_or-eq_default}
 use borrow.Author.Tests.{le-leb, lt-leb, ltb-true, ltb-false}
-use Rattle.calendar.specs.Calendar.{if◌then◌else◌}
 use Rattle.machine.specs.declared.Cursor.{Cursor}
 use Rattle.machine.specs.Given.{below}
 use Rattle.machine.specs.Cursors.{poised}

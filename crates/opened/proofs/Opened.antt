@@ -1,5 +1,6 @@
 -- A period that is opened has the rule's own kept candidates.
 -- Assumes nothing.
+use Rattle.std.specs.Prelude.{if◌then◌else◌}
 use Prim.Native.Nat.{ℕ, zero, suc, ◌+◌, ◌-◌, ◌*◌, ◌/◌, ◌%◌, min, ◌≤◌, ◌<◌}
 use mathlib.Core.Path.{◌≡◌, refl, sym, ap, subst, ◌∙◌}
 use mathlib.Core.Bool.{Bool, true, false, ◌&&◌}
@@ -10,7 +11,7 @@ use lib.Dec.{leb, ltb}
 use lib.ListN.{length, get_or, length-map}
 use lib.Seq.{length-sets}
 use borrow.Author.Tests.{not-true, not-false, le-leb, lt-ltb, ltb-false}
-use Rattle.calendar.specs.Calendar.{if◌then◌else◌, year_length, new_year}
+use Rattle.calendar.specs.Calendar.{year_length, new_year}
 use Rattle.rule.specs.declared.rrule.Rule.{Rule}
 use Rattle.rule.specs.Lists.{is_empty}
 use Rattle.rule.specs.Days.{day_passes}

@@ -1,5 +1,6 @@
 -- The scan's step: a name, the value behind it, and where it goes on.
 -- Assumes nothing.
+use Rattle.std.specs.Prelude.{if◌then◌else◌}
 use Prim.Native.Nat.{ℕ, zero, suc, ◌+◌, ◌-◌, ◌≤◌, ◌<◌}
 use native.Mathlib.Omega.{arith}
 use mathlib.Core.Path.{◌≡◌, refl, sym, ap, ◌∙◌, subst}
@@ -8,7 +9,6 @@ use mathlib.Core.List.{List}
 use lib.ListN.{length, set, drop, length-map}
 use lib.Dec.{ltb}
 use borrow.Author.Tests.{lt-ltb}
-use Rattle.calendar.specs.Calendar.{if◌then◌else◌}
 use Rattle.symbols.specs.Takes.{Took}
 use Rattle.symbols.specs.Readers.{single, head_is, goes_on}
 use Rattle.recur.specs.declared.Reached.{Reached}

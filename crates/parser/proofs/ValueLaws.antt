@@ -1,5 +1,6 @@
 -- What stands at a place, and what the code has read there.
 -- Assumes nothing.
+use Rattle.std.specs.Prelude.{if◌then◌else◌}
 use Prim.Native.Nat.{ℕ, zero, suc, ◌≤◌, ◌<◌}
 use native.Mathlib.Omega.{arith}
 use mathlib.Core.Path.{◌≡◌, refl, sym, ap, ◌∙◌, subst⁻¹}
@@ -8,7 +9,6 @@ use mathlib.Core.List.{List}
 use lib.ListN.{drop}
 use lib.Dec.{eqb, leb}
 use borrow.Author.Tests.{ne_eqb}
-use Rattle.calendar.specs.Calendar.{if◌then◌else◌}
 use Rattle.calendar.proofs.Table.{same_below}
 use Rattle.symbols.specs.Takes.{Took, Takes}
 use Rattle.symbols.specs.Readers.{turned_into}

@@ -1,12 +1,12 @@
 -- What is told of a period: its counter where the start is in range and it begins in it.
 -- Assumes nothing.
+use Rattle.std.specs.Prelude.{if◌then◌else◌}
 use Prim.Native.Nat.{ℕ}
 use mathlib.Core.Path.{◌≡◌, refl}
 use mathlib.Core.Bool.{Bool, true, false, ◌&&◌}
 use native.Mathlib.Omega.{arith}
 use lib.Dec.{leb}
 use borrow.Author.Tests.{le-leb}
-use Rattle.calendar.specs.Calendar.{if◌then◌else◌}
 use Rattle.rule.specs.Instants.{last_instant}
 use Rattle.rule.specs.Periods.{in_range}
 use Rattle.periods.specs.declared.counter_date.Counter.{Counter}

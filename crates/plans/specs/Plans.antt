@@ -1,7 +1,6 @@
 -- What a call needs of its rule.
 -- Assumes nothing.
-use Rattle.std.specs.Prelude.{ℕ, not, ltb}
-use Rattle.calendar.specs.Calendar.{if◌then◌else◌}
+use Rattle.std.specs.Prelude.{ℕ, not, ltb, if◌then◌else◌}
 use Rattle.rule.specs.declared.rrule.Until.{Until}
 use Rattle.rule.specs.declared.rrule.Rule.{Rule}
 use Rattle.rule.specs.Instants.{last_instant, second}

@@ -1,5 +1,6 @@
 -- How large what is spelled can be: a moment lies in the range of instants, an entry has three digits, a list 749 entries.
 -- Assumes nothing.
+use Rattle.std.specs.Prelude.{if◌then◌else◌}
 use Prim.Native.Nat.{ℕ, zero, suc, ◌+◌, ◌-◌, ◌*◌, ◌≤◌, ◌<◌}
 use native.Mathlib.Omega.{arith}
 use mathlib.Core.Path.{◌≡◌, refl, sym, ap, subst}
@@ -10,7 +11,7 @@ use lib.Dec.{eqb, leb}
 use lib.IntN.{ℤ, pos, nat_abs}
 use borrow.Author.Tests.{leb-true}
 use Rattle.calendar.specs.declared.utils.Date.{Date}
-use Rattle.calendar.specs.Calendar.{if◌then◌else◌, leap, new_year, year_of, month_length, day_of_date, date_of}
+use Rattle.calendar.specs.Calendar.{leap, new_year, year_of, month_length, day_of_date, date_of}
 use Rattle.calendar.proofs.Table.{same_below}
 use Rattle.calendar.proofs.Years.{years_rise, year_of_is}
 use Rattle.calendar.proofs.Dates.{date_of_its_day}

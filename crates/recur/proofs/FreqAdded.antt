@@ -1,5 +1,6 @@
 -- Parts that lack FREQ can have it behind them. So whatever begins a list of parts begins a good text.
 -- Assumes nothing.
+use Rattle.std.specs.Prelude.{if◌then◌else◌}
 use Prim.Native.Nat.{ℕ, zero, suc}
 use native.Mathlib.Omega.{arith}
 use mathlib.Core.Path.{◌≡◌, refl, sym, ap, ◌∙◌, subst}
@@ -8,7 +9,6 @@ use mathlib.Core.List.{List, [], ◌∷◌, ◌++◌, append_assoc}
 use lib.Dec.{eqb}
 use lib.Seq.{get_or-set_other}
 use borrow.Author.Tests.{eqb-false}
-use Rattle.calendar.specs.Calendar.{if◌then◌else◌}
 use Rattle.symbols.specs.Languages.{is_used, word_at, both, Joined, Joined.one, Joined.more}
 use Rattle.recur.specs.Grammar.{names, frequencies, none_used, Value, number, Part, Kind, frequency, up_to_high, moment, weekday, entries, day_entries}
 use Rattle.recur.specs.Grammar.{kind_of, ValueText, PartText, with_used, semicolon, Parts, value_in, rule_of, is_there, Begins}

@@ -1,5 +1,6 @@
 -- What is read lies in its ranges.
 -- Assumes nothing.
+use Rattle.std.specs.Prelude.{if◌then◌else◌}
 use Prim.Native.Nat.{ℕ, suc, ◌≤◌}
 use native.Mathlib.Omega.{arith}
 use mathlib.Core.Path.{◌≡◌, refl, sym, ◌∙◌, subst}
@@ -10,7 +11,6 @@ use lib.ListN.{length, length-map}
 use lib.Dec.{eqb, ltb}
 use lib.IntN.{ℤ}
 use borrow.Author.Tests.{ltb-true, ltb-false, eqb-true}
-use Rattle.calendar.specs.Calendar.{if◌then◌else◌}
 use Rattle.rule.specs.Raw.{Raw}
 use Rattle.symbols.specs.Languages.{Spelled, Both, Turned, Joined, Joined.one, Joined.more}
 use Rattle.recur.specs.Grammar.{none_used, Entry, Day, Value, absent, Part, Kind, entries, day_entries, kind_of, ValueText, PartText, with_used, semicolon}

@@ -1,11 +1,11 @@
 -- How the scan goes, step by step: a name and its place, then the value behind it, then a semicolon and the next part.
 -- Assumes nothing.
+use Rattle.std.specs.Prelude.{if◌then◌else◌}
 use Prim.Native.Nat.{ℕ, zero, suc, ◌+◌}
 use mathlib.Core.Path.{◌≡◌, refl, ap}
 use mathlib.Core.Bool.{Bool, true, false}
 use mathlib.Core.List.{List}
 use lib.ListN.{set}
-use Rattle.calendar.specs.Calendar.{if◌then◌else◌}
 use Rattle.symbols.specs.Languages.{both}
 use Rattle.symbols.specs.Takes.{Took, took}
 use Rattle.symbols.specs.Readers.{word, with_first, followed, behind, goes_on}

@@ -1,6 +1,7 @@
 -- The parts of a text by their values: a value for each name in turn, absent where the part is left out. They are joined as the grammar has it,
 -- have the length that their values allow, and say the values again.
 -- Assumes nothing.
+use Rattle.std.specs.Prelude.{if◌then◌else◌}
 use Prim.Native.Nat.{ℕ, zero, suc, ◌+◌, ◌≤◌, ◌<◌}
 use native.Mathlib.Omega.{arith}
 use native.Mathlib.Nat.{zero-add}
@@ -10,7 +11,6 @@ use mathlib.Core.List.{List, [], ◌∷◌, ◌++◌, append-nil}
 use lib.ListN.{length, get_or, length-append}
 use lib.Seq.{get_or-set_other}
 use borrow.Author.Tests.{eq-eqb, ne_eqb}
-use Rattle.calendar.specs.Calendar.{if◌then◌else◌}
 use Rattle.symbols.specs.Languages.{is_used, word_at, both, Joined, one, more}
 use Rattle.recur.specs.Grammar.{names, Value, absent, number, numbers, days, Part, Kind, kind_of, ValueText, PartText, with_used, value_in, rule_by, rule_of}
 use Rattle.recur.specs.Grammar.{is_there}

@@ -1,7 +1,7 @@
 -- The texts of rules: the RECUR value of RFC 5545, section 3.3.10, in the words of request 2026-04. A text is a list of bytes.
 -- Assumes nothing.
-use Rattle.std.specs.Prelude.{ℕ, zero, suc, ◌+◌, ◌*◌, ◌≡◌, Bool, true, false, ◌||◌, List, [], ◌∷◌, ◌++◌, map, set, get_or, eqb, ℤ, pos, negsuc}
-use Rattle.calendar.specs.Calendar.{if◌then◌else◌, leap, month_length, day_of_date}
+use Rattle.std.specs.Prelude.{ℕ, zero, suc, ◌+◌, ◌*◌, ◌≡◌, Bool, true, false, ◌||◌, List, [], ◌∷◌, ◌++◌, map, set, get_or, eqb, ℤ, pos, negsuc, if◌then◌else◌}
+use Rattle.calendar.specs.Calendar.{leap, month_length, day_of_date}
 use Rattle.rule.specs.declared.rrule.Count.{Count}
 use Rattle.rule.specs.declared.rrule.Until.{Until}
 use Rattle.rule.specs.Instants.{instant}

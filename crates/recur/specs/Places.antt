@@ -1,8 +1,7 @@
 -- How the code reads a text: first where the value of each part stands, then the values there. A name that is open has the place 0, where no value stands.
 -- Nothing but contracts leans on this.
 -- Assumes nothing.
-use Rattle.std.specs.Prelude.{ℕ, zero, suc, ◌+◌, ◌<◌, ◌≡◌, Bool, true, false, List, [], ◌∷◌, map, get_or, set, drop, ltb}
-use Rattle.calendar.specs.Calendar.{if◌then◌else◌}
+use Rattle.std.specs.Prelude.{ℕ, zero, suc, ◌+◌, ◌<◌, ◌≡◌, Bool, true, false, List, [], ◌∷◌, map, get_or, set, drop, ltb, if◌then◌else◌}
 use Rattle.symbols.specs.Takes.{Took}
 use Rattle.symbols.specs.Readers.{word, behind, goes_on}
 use Rattle.recur.specs.Grammar.{names, none_used, Value, absent, kind_of, semicolon, value_in}

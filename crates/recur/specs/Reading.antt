@@ -1,7 +1,7 @@
 -- How a text is read: a reader for each symbol of the grammar.
 -- Assumes nothing.
-use Rattle.std.specs.Prelude.{ℕ, Bool, true, false, ◌&&◌, ◌||◌, List, [], ◌∷◌, length, eqb, ltb, ℤ, pos}
-use Rattle.calendar.specs.Calendar.{if◌then◌else◌, leap, month_length}
+use Rattle.std.specs.Prelude.{ℕ, Bool, true, false, ◌&&◌, ◌||◌, List, [], ◌∷◌, length, eqb, ltb, ℤ, pos, if◌then◌else◌}
+use Rattle.calendar.specs.Calendar.{leap, month_length}
 use Rattle.rule.specs.Raw.{Raw}
 use Rattle.symbols.specs.Languages.{is_digit, Both, both}
 use Rattle.symbols.specs.Takes.{Took}

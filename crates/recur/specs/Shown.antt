@@ -1,8 +1,7 @@
 -- What the code's types show of a reader's answer and of what is read.
 -- Assumes nothing.
-use Rattle.std.specs.Prelude.{ℕ, length, ℤ, pos}
+use Rattle.std.specs.Prelude.{ℕ, length, ℤ, pos, if◌then◌else◌}
 use Rattle.std.proofs.lemmas.List.Edits.{sets}
-use Rattle.calendar.specs.Calendar.{if◌then◌else◌}
 use Rattle.rule.specs.Raw.{RawLists, Raw, raw_lists}
 use Rattle.symbols.specs.Languages.{Both}
 use Rattle.symbols.specs.Takes.{Took}

@@ -1,8 +1,8 @@
 -- How a rule is written: one text, its parts in the record's order, in capitals, with what goes without saying left out.
 -- Assumes nothing.
-use Rattle.std.specs.Prelude.{ℕ, zero, suc, ◌+◌, ◌/◌, ◌%◌, Bool, true, false, List, [], ◌∷◌, ◌++◌, map, length, eqb, leb, ltb, ℤ, pos, negsuc}
+use Rattle.std.specs.Prelude.{ℕ, zero, suc, ◌+◌, ◌/◌, ◌%◌, Bool, true, false, List, [], ◌∷◌, ◌++◌, map, length, eqb, leb, ltb, ℤ, pos, negsuc, if◌then◌else◌}
 use Rattle.std.proofs.lemmas.List.Edits.{sets}
-use Rattle.calendar.specs.Calendar.{if◌then◌else◌, date_of}
+use Rattle.calendar.specs.Calendar.{date_of}
 use Rattle.calendar.specs.declared.utils.Date.{Date}
 use Rattle.rule.specs.declared.rrule.Count.{Count}
 use Rattle.rule.specs.declared.rrule.Until.{Until}

@@ -1,5 +1,6 @@
 -- Entries of a list: moved up, they keep their order, their slots and their zero; and how the tests of a list go on from one entry to the next.
 -- Assumes nothing.
+use Rattle.std.specs.Prelude.{if◌then◌else◌}
 use mathlib.Core.Path.{◌≡◌, refl, ap, sym, ◌∙◌}
 use mathlib.Core.Bool.{Bool, true, false, not, ◌&&◌, ◌||◌, and-true}
 use mathlib.Core.List.{List, [], ◌∷◌}
@@ -12,7 +13,6 @@ use lib.Seq.{drop-cons}
 use lib.IntN.{ℤ, pos, negsuc, ◌+ℤ◌}
 use lib.Signed.{mag, lt_z}
 use borrow.Author.Tests.{leb-true, lt-ltb, le-ltb, ne_eqb, ltb-true, ltb-false}
-use Rattle.calendar.specs.Calendar.{if◌then◌else◌}
 use Rattle.rule.specs.declared.rrule.Range.{Range}
 use Rattle.rule.specs.declared.rrule.Slot.{Slot}
 use Rattle.rule.specs.Lists.{within, zeros, slot_of, nths, weekdays, pair_slot, is_empty, mark}

@@ -1,5 +1,6 @@
 -- Filling in: where it changes nothing, and that twice is once.
 -- Assumes nothing.
+use Rattle.std.specs.Prelude.{if◌then◌else◌}
 use mathlib.Core.Path.{◌≡◌, refl, ap, sym, ◌∙◌}
 use mathlib.Core.Bool.{Bool, true, false, not, ◌&&◌, ◌||◌, and-true}
 use mathlib.Core.List.{List, [], ◌∷◌}
@@ -9,7 +10,7 @@ use lib.Dec.{eqb, ltb}
 use lib.ListN.{length, set}
 use lib.Seq.{set-set}
 use Rattle.calendar.specs.declared.utils.Date.{Date}
-use Rattle.calendar.specs.Calendar.{if◌then◌else◌, leap, date_of}
+use Rattle.calendar.specs.Calendar.{leap, date_of}
 use Rattle.calendar.proofs.Dates.{date_is}
 use Rattle.calendar.proofs.Months.{at_most_31}
 use Rattle.rule.specs.declared.rrule.Frequency.{Frequency}

@@ -1,5 +1,6 @@
 -- Week 1 and the week year of a day are what document 01 says.
 -- Assumes nothing.
+use Rattle.std.specs.Prelude.{if◌then◌else◌}
 use Prim.Native.Nat.{ℕ, ◌+◌, ◌-◌, min, max, ◌≤◌, ◌<◌}
 use mathlib.Core.Path.{◌≡◌, refl, subst, subst⁻¹}
 use mathlib.Core.Logic.{◌⊎◌, inl, inr, ⊎_elim}
@@ -7,7 +8,7 @@ use mathlib.Core.Bool.{Bool, true, false}
 use lib.Dec.{ltb, leb}
 use native.Mathlib.Omega.{arith}
 use borrow.Author.Tests.{ltb-true, ltb-false, leb-true, leb-false}
-use Rattle.calendar.specs.Calendar.{if◌then◌else◌, new_year, weekday}
+use Rattle.calendar.specs.Calendar.{new_year, weekday}
 use Rattle.calendar.proofs.Years.{years_grow, years_rise}
 use Rattle.rule.specs.Days.{week_of, week1, week_year}
 use Rattle.rule.specs.Moves.{Least}

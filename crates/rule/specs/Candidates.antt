@@ -1,9 +1,8 @@
 -- The candidates of a period, and those that BYSETPOS keeps.
 -- Assumes nothing.
-use Rattle.std.specs.Prelude.{ℕ, zero, suc, ◌+◌, ◌-◌, ◌*◌, ◌/◌, ◌≤◌, ◌<◌, ◌≡◌, Bool, true, false, List, [], ◌∷◌, ◌++◌, map, length, get_or, pos, neg_ℤ}
+use Rattle.std.specs.Prelude.{ℕ, zero, suc, ◌+◌, ◌-◌, ◌*◌, ◌/◌, ◌≤◌, ◌<◌, ◌≡◌, Bool, true, false, List, [], ◌∷◌, ◌++◌, map, length, get_or, pos, neg_ℤ, if◌then◌else◌}
 use Rattle.rule.specs.declared.rrule.Frequency.{Frequency}
 use Rattle.rule.specs.declared.rrule.Rule.{Rule}
-use Rattle.calendar.specs.Calendar.{if◌then◌else◌}
 use Rattle.rule.specs.Instants.{day_of, hour_of, minute_of, second_of}
 use Rattle.rule.specs.Lists.{positions, is_in, is_empty}
 use Rattle.rule.specs.Filling.{is_below}

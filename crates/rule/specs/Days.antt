@@ -1,10 +1,10 @@
 -- Which days pass. A day passes if it passes every non-empty list.
 -- Assumes nothing.
-use Rattle.std.specs.Prelude.{ℕ, ◌+◌, ◌-◌, ◌/◌, ◌%◌, Bool, ◌&&◌, ◌||◌, List, ltb, leb, pos, neg_ℤ, ◌-ℤ◌}
+use Rattle.std.specs.Prelude.{ℕ, ◌+◌, ◌-◌, ◌/◌, ◌%◌, Bool, ◌&&◌, ◌||◌, List, ltb, leb, pos, neg_ℤ, ◌-ℤ◌, if◌then◌else◌}
 use Rattle.rule.specs.declared.rrule.Frequency.{Frequency}
 use Rattle.rule.specs.declared.rrule.Rule.{Rule}
 use Rattle.calendar.specs.declared.utils.Date.{Date}
-use Rattle.calendar.specs.Calendar.{if◌then◌else◌, year_length, new_year, date_of, weekday}
+use Rattle.calendar.specs.Calendar.{year_length, new_year, date_of, weekday}
 use Rattle.rule.specs.declared.rrule.Range.{Range}
 use Rattle.rule.specs.Lists.{months, monthdays, yeardays, weeknos, is_in, is_pair_in, is_empty}
 use Rattle.rule.specs.Filling.{same}

@@ -1,6 +1,6 @@
 -- The record that an accepted check yields: the sets of the lists, filled in from the start.
 -- Assumes nothing.
-use Rattle.std.specs.Prelude.{ℕ, ◌≡◌, Bool, false, ◌&&◌, ◌||◌, List, eqb, ltb, replicate, pos}
+use Rattle.std.specs.Prelude.{ℕ, ◌≡◌, Bool, false, ◌&&◌, ◌||◌, List, eqb, ltb, replicate, pos, if◌then◌else◌}
 use Rattle.rule.specs.declared.rrule.Frequency.{Frequency}
 use Rattle.rule.specs.declared.rrule.Count.{Count}
 use Rattle.rule.specs.declared.rrule.Until.{Until}
@@ -8,7 +8,7 @@ use Rattle.rule.specs.declared.rrule.Verdict.{Verdict}
 use Rattle.rule.specs.declared.rrule.Checked.{Checked}
 use Rattle.rule.specs.declared.rrule.Rule.{Rule}
 use Rattle.calendar.specs.declared.utils.Date.{Date}
-use Rattle.calendar.specs.Calendar.{if◌then◌else◌, date_of, weekday}
+use Rattle.calendar.specs.Calendar.{date_of, weekday}
 use Rattle.rule.specs.Instants.{second, day_of, hour_of, minute_of, second_of}
 use Rattle.rule.specs.declared.rrule.Slot.{Slot}
 use Rattle.rule.specs.Lists.{months, monthdays, yeardays, weeknos, hours, minutes, seconds, positions, slot_of, pair_slot, is_empty, set_of, mark}

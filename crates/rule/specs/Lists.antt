@@ -1,7 +1,6 @@
 -- The lists of a rule: their ranges, and the sets that a record holds of them. A set is reached only through "is v in it" and "is it empty".
 -- Assumes nothing.
-use Rattle.std.specs.Prelude.{ℕ, zero, suc, ◌+◌, ◌-◌, ◌*◌, Bool, true, false, ◌||◌, List, [], ◌∷◌, get_or, set, eqb, leb, ℤ, pos, negsuc}
-use Rattle.calendar.specs.Calendar.{if◌then◌else◌}
+use Rattle.std.specs.Prelude.{ℕ, zero, suc, ◌+◌, ◌-◌, ◌*◌, Bool, true, false, ◌||◌, List, [], ◌∷◌, get_or, set, eqb, leb, ℤ, pos, negsuc, if◌then◌else◌}
 use Rattle.rule.specs.declared.rrule.Range.{Range}
 use Rattle.rule.specs.declared.rrule.Slot.{Slot}
 

@@ -1,7 +1,7 @@
 -- What follows from the meaning: claims about days, candidates, periods and moves. proofs/ has a proof of each, under the same name in small letters.
 -- Assumes nothing.
-use Rattle.std.specs.Prelude.{ℕ, zero, suc, ◌+◌, ◌-◌, ◌*◌, ◌%◌, min, max, ◌≤◌, ◌<◌, ◌≡◌, ◌⊎◌, ◌↔◌, true, false, List, [], ◌∷◌, eqb}
-use Rattle.calendar.specs.Calendar.{if◌then◌else◌, new_year, weekday}
+use Rattle.std.specs.Prelude.{ℕ, zero, suc, ◌+◌, ◌-◌, ◌*◌, ◌%◌, min, max, ◌≤◌, ◌<◌, ◌≡◌, ◌⊎◌, ◌↔◌, true, false, List, [], ◌∷◌, eqb, if◌then◌else◌}
+use Rattle.calendar.specs.Calendar.{new_year, weekday}
 use Rattle.machine.specs.Rising.{◌∈◌}
 use Rattle.machine.specs.Given.{Move, Move.To, Move.NoTick, Move.Range}
 use Rattle.rule.specs.declared.rrule.Frequency.{Frequency}

@@ -1,5 +1,6 @@
 -- A word more that is offered, and several; and what the best match comes to.
 -- Assumes nothing.
+use Rattle.std.specs.Prelude.{if◌then◌else◌}
 use Prim.Native.Nat.{ℕ, zero, suc, ◌+◌, ◌≤◌, ◌<◌}
 use native.Mathlib.Omega.{arith}
 use mathlib.Core.Path.{◌≡◌, refl, sym, ap, ◌∙◌}
@@ -8,7 +9,6 @@ use mathlib.Core.List.{List, [], ◌∷◌}
 use lib.ListN.{length, get_or, drop}
 use lib.Dec.{ltb}
 use borrow.Author.Tests.{eq-eqb, ne_eqb, lt-ltb, le-ltb}
-use Rattle.calendar.specs.Calendar.{if◌then◌else◌}
 use Rattle.symbols.specs.declared.Best.{Best}
 use Rattle.symbols.specs.Languages.{pick, is_used, word_at}
 use Rattle.symbols.specs.Readers.{common, best, better, offer, choose, chosen, word}

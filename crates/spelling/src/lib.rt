@@ -2,8 +2,7 @@
 // how far the text begins some word.
 #![tactic(auto)]
 
-ghost use Rattle.std.specs.Prelude.{◌≡◌, ◌+◌, ◌≤◌, length, drop, false, []};
-ghost use Rattle.calendar.specs.Calendar.{if◌then◌else◌};
+ghost use Rattle.std.specs.Prelude.{◌≡◌, ◌+◌, ◌≤◌, length, drop, false, [], if◌then◌else◌};
 ghost use Rattle.symbols.specs.Languages.{upper};
 ghost use Rattle.symbols.specs.Readers.{best, chosen, word};
 ghost use Rattle.recur.specs.Grammar.{names};

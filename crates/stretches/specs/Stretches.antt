@@ -1,7 +1,7 @@
 -- The days of a period, by its number.
 -- Assumes nothing.
-use Rattle.std.specs.Prelude.{ℕ, ◌+◌, ◌/◌, ◌%◌, min, ltb}
-use Rattle.calendar.specs.Calendar.{if◌then◌else◌, new_year, first_of}
+use Rattle.std.specs.Prelude.{ℕ, ◌+◌, ◌/◌, ◌%◌, min, ltb, if◌then◌else◌}
+use Rattle.calendar.specs.Calendar.{new_year, first_of}
 use Rattle.rule.specs.declared.rrule.Frequency.{Frequency}
 use Rattle.rule.specs.Instants.{range_end}
 use Rattle.periods.specs.Counters.{limit_of}

@@ -1,7 +1,6 @@
 -- The times of a period by number. Hours, minutes and seconds stand in rows of 144 places: hour h at h, minute m at 24 + m, second s at 84 + s.
 -- Assumes nothing.
-use Rattle.std.specs.Prelude.{ℕ, ◌+◌, ◌*◌, ◌/◌, ◌%◌, Bool, false, ◌&&◌, List, ltb, get_or}
-use Rattle.calendar.specs.Calendar.{if◌then◌else◌}
+use Rattle.std.specs.Prelude.{ℕ, ◌+◌, ◌*◌, ◌/◌, ◌%◌, Bool, false, ◌&&◌, List, ltb, get_or, if◌then◌else◌}
 use Rattle.rule.specs.declared.rrule.Frequency.{Frequency}
 use Rattle.rule.specs.Filling.{is_below}
 use Rattle.times.specs.declared.iterinfo.Counts.{Counts}

@@ -1,7 +1,7 @@
 -- The year that a day lies in.
 -- Assumes nothing.
-use Rattle.std.specs.Prelude.{ℕ, ◌+◌, Bool, ◌&&◌, leb, ltb}
-use Rattle.calendar.specs.Calendar.{if◌then◌else◌, days_of, year_of}
+use Rattle.std.specs.Prelude.{ℕ, ◌+◌, Bool, ◌&&◌, leb, ltb, if◌then◌else◌}
+use Rattle.calendar.specs.Calendar.{days_of, year_of}
 use Rattle.weeks.specs.declared.yearinfo.Year.{Year}
 
 -- a day lies in a year

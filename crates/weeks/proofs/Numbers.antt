@@ -1,5 +1,6 @@
 -- Week numbers around a year: 52 or 53 weeks each, and which number a day's week has.
 -- Assumes nothing.
+use Rattle.std.specs.Prelude.{if◌then◌else◌}
 use mathlib.Core.Path.{◌≡◌, refl, ap, ◌∙◌}
 use mathlib.Core.Bool.{Bool, true, false}
 use mathlib.Core.List.{List}
@@ -10,7 +11,7 @@ use lib.Dec.{leb}
 use lib.ListN.{get_or}
 use lib.IntN.{pos, negsuc, ◌-ℤ◌}
 use borrow.Author.Tests.{lt-ltb, le-ltb, le-leb, lt-leb, ne_eqb, leb-true, leb-false}
-use Rattle.calendar.specs.Calendar.{if◌then◌else◌, leap, days_of, year_length, new_year}
+use Rattle.calendar.specs.Calendar.{leap, days_of, year_length, new_year}
 use Rattle.calendar.proofs.Years.{years_follow, years_rise}
 use Rattle.rule.specs.Lists.{weeknos, slot_of, is_in}
 use Rattle.rule.specs.Days.{week_of, week1, week_year, week_number, weeks_in, number_passes}

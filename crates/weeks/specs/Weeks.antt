@@ -1,7 +1,7 @@
 -- A year as the day sets need it, and which of its days pass BYWEEKNO.
 -- Assumes nothing.
-use Rattle.std.specs.Prelude.{ℕ, ◌+◌, ◌-◌, ◌≤◌, ◌<◌, ◌≡◌, Bool, false, ◌&&◌, ◌||◌, List, length, get_or, eqb, ltb, leb}
-use Rattle.calendar.specs.Calendar.{if◌then◌else◌, leap, year_length, new_year}
+use Rattle.std.specs.Prelude.{ℕ, ◌+◌, ◌-◌, ◌≤◌, ◌<◌, ◌≡◌, Bool, false, ◌&&◌, ◌||◌, List, length, get_or, eqb, ltb, leb, if◌then◌else◌}
+use Rattle.calendar.specs.Calendar.{leap, year_length, new_year}
 use Rattle.rule.specs.Lists.{is_in, flags}
 use Rattle.rule.specs.Days.{week1, week_year, week_number, weeks_in, number_passes}
 use Rattle.weeks.specs.declared.yearinfo.Year.{Year}

@@ -1,7 +1,7 @@
 -- What the day test needs of a year, and of which year of which rule it is.
 -- Assumes nothing.
-use Rattle.std.specs.Prelude.{ℕ, Bool, false, not, ◌&&◌, ◌||◌, List, replicate}
-use Rattle.calendar.specs.Calendar.{if◌then◌else◌, month_table, month_day_table, from_end_table}
+use Rattle.std.specs.Prelude.{ℕ, Bool, false, not, ◌&&◌, ◌||◌, List, replicate, if◌then◌else◌}
+use Rattle.calendar.specs.Calendar.{month_table, month_day_table, from_end_table}
 use Rattle.rule.specs.declared.rrule.Frequency.{Frequency}
 use Rattle.rule.specs.declared.rrule.Rule.{Rule}
 use Rattle.rule.specs.Lists.{is_empty}

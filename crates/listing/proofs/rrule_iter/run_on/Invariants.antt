@@ -1,7 +1,7 @@
 -- `listing::rrule_iter::run_on` meets its contract. Each place of the loop has a name; what is known there is one record.
 -- Assumes nothing.
+use Rattle.std.specs.Prelude.{if◌then◌else◌}
 use Prim.Native.Nat.{◌+◌, ◌-◌, ◌*◌}
-use Rattle.calendar.specs.Calendar.{if◌then◌else◌}
 use Rattle.stretches.specs.Stretches.{days_in}
 use Rattle.units.specs.Years.{is_in_year}
 use Rattle.listing.proofs.Turns.{At}
