@@ -6,9 +6,8 @@
  * An instant is a count of UTC seconds since 1970-01-01T00:00:00Z, from 0 to 253402300799 (9999-12-31T23:59:59Z).
  * Weekdays are 0 to 6, Monday first.
  *
- * yomaveludge_check makes a record of a rule, and yomaveludge_read of a rule's text; yomaveludge_fresh makes the first cursor
- * of a record, and yomaveludge_run lists from a cursor on. yomaveludge_write gives a rule as a text. docs/TEXT.md has the
- * grammar of texts, that of RFC 5545, section 3.3.10. A record and a cursor are bytes. Keep them, copy them, store them. The first byte is their version; what
+ * yomaveludge_check makes a record of a rule, yomaveludge_fresh the first cursor of a record, and yomaveludge_run lists
+ * from a cursor on. A record and a cursor are bytes. Keep them, copy them, store them. The first byte is their version; what
  * stands in the others is not for callers, and may change with the library.
  *
  * Any bytes may be handed over. Bytes that hold no record are refused with 20, and bytes that hold no cursor of the record
@@ -38,10 +37,7 @@ extern "C" {
 
 /* The version of this header and of the library that goes with it: one number, which goes up with each change that a caller
  * can see. */
-#define YOMAVELUDGE_VERSION 4
-
-/* New in version 4: yomaveludge_read takes a rule as a text, and yomaveludge_write gives it as one; 50 and 51 are theirs. All
- * else is as it was: every other call, the records, the cursors and their versions. */
+#define YOMAVELUDGE_VERSION 3
 
 /* New in version 3: the first week of a WEEKLY rule is the whole calendar week of the start, from the week start's day on. Its
  * days before the start count for BYSETPOS and for the place in a cursor; none is handed out. So a place means another one
@@ -87,7 +83,7 @@ enum {
 
 /* The answers. Each number means the same whichever call gives it. */
 
-/* What every call but yomaveludge_run answers where it refuses nothing. */
+/* What yomaveludge_check and yomaveludge_fresh answer where they refuse nothing. */
 #define YOMAVELUDGE_ACCEPTED 0
 
 /* Refusals. The lowest number that applies is given. A refused call leaves every byte and slot as it was. */
@@ -105,9 +101,7 @@ enum {
     YOMAVELUDGE_COUNT_AND_UNTIL = 11, /* COUNT and UNTIL are both given */
     YOMAVELUDGE_LIST_MISPLACED = 12,  /* BYWEEKNO outside YEARLY, BYYEARDAY with MONTHLY to DAILY, or BYMONTHDAY with WEEKLY */
     YOMAVELUDGE_BAD_RECORD = 20,      /* the bytes are no record that an accepted check yields, or have another length */
-    YOMAVELUDGE_BAD_CURSOR = 21,      /* the bytes are no cursor that is well formed for the record, or have another length */
-    YOMAVELUDGE_UNREAD = 50,          /* the text can't be read: the place says where */
-    YOMAVELUDGE_SHORT = 51            /* the buffer is too short for the text: the length says what is needed */
+    YOMAVELUDGE_BAD_CURSOR = 21       /* the bytes are no cursor that is well formed for the record, or have another length */
 };
 
 /* Why a run has stopped, where it isn't refused. */
@@ -117,7 +111,7 @@ enum {
     YOMAVELUDGE_ENDED = 102    /* the listing is at its end: see the cause */
 };
 
-/* Whether an answer is a refusal, of any call: neither "accepted" nor a stop. */
+/* Whether an answer is a refusal, of any of the three calls: neither "accepted" nor a stop. */
 #define YOMAVELUDGE_REFUSED(answer) ((answer) - 1u < YOMAVELUDGE_MORE - 1u)
 
 /* Why a listing is at its end. A cause is no answer: it has numbers of its own. */
@@ -130,7 +124,7 @@ enum {
     YOMAVELUDGE_BY_RANGE = 5     /* the next period begins after 9999 */
 };
 
-/* The meaning of an answer, of any call. */
+/* The meaning of an answer, of any of the three calls. */
 static inline const char *yomaveludge_meaning(uint8_t answer)
 {
     switch (answer) {
@@ -150,8 +144,6 @@ static inline const char *yomaveludge_meaning(uint8_t answer)
         return "refused: BYWEEKNO outside YEARLY, BYYEARDAY with MONTHLY, WEEKLY or DAILY, or BYMONTHDAY with WEEKLY";
     case YOMAVELUDGE_BAD_RECORD: return "refused: the bytes are no record of this version that an accepted check yields";
     case YOMAVELUDGE_BAD_CURSOR: return "refused: the bytes are no cursor of this version that is well formed for the record";
-    case YOMAVELUDGE_UNREAD: return "refused: the text can't be read";
-    case YOMAVELUDGE_SHORT: return "refused: the buffer is too short for the text";
     case YOMAVELUDGE_MORE: return "stopped: the buffer is full";
     case YOMAVELUDGE_LIMITED: return "stopped: every move allowed is made";
     case YOMAVELUDGE_ENDED: return "stopped: the listing is at its end";
@@ -202,45 +194,6 @@ uint8_t yomaveludge_check(
     const int16_t *bysecond, size_t bysecond_length,
     const int16_t *bysetpos, size_t bysetpos_length,
     uint8_t *record, size_t record_length);
-
-/* The most bytes that a text may have, and the most that yomaveludge_write needs: a buffer of so many is never too short. */
-#define YOMAVELUDGE_TEXT_LENGTH 16384
-#define YOMAVELUDGE_WRITTEN_LENGTH 13117
-
-/* Reads a rule's text, as FREQ=MONTHLY;BYDAY=-1FR, and checks the rule with the start. The text has no zero byte at its end,
- * and the name RRULE: is no part of it.
- *
- * Promise: it answers 50 where the text is none that docs/TEXT.md allows, and *place is the length of its longest beginning
- * that begins some such text: the place of the first byte that can't be taken, or the text's end where it is only unfinished;
- * of a text of more than YOMAVELUDGE_TEXT_LENGTH bytes it is that number. Else it answers what yomaveludge_check answers of
- * the rule with the start: 3 or 5 to 12; 20 if record_length isn't YOMAVELUDGE_RECORD_LENGTH; or 0, and the record's bytes
- * are the rule, filled in from its start. *place is 0 with every answer but 50. With any answer but 0 the record's bytes are
- * as they were.
- */
-uint8_t yomaveludge_read(
-    const uint8_t *text, size_t text_length, uint64_t start, uint8_t *record, size_t record_length, size_t *place);
-
-/* Writes a rule's text. The rule is given as to yomaveludge_check, without start and record.
- *
- * Promise: it answers the lowest of 1, 2 and 4 to 12 that applies; where none does, 51 if the text has more than text_length
- * bytes, and *length is how many it has; else 0, and the text is the first *length bytes. With a number of the check *length
- * is 0. With any answer but 0 every byte is as it was, and with 0 so are those behind the text. The text has at most
- * YOMAVELUDGE_WRITTEN_LENGTH bytes and no zero byte at its end; yomaveludge_read reads it as the same rule.
- */
-uint8_t yomaveludge_write(
-    uint8_t frequency, uint16_t interval, uint8_t counted, uint32_t count, uint8_t bounded, uint64_t until,
-    uint8_t week_start,
-    const int16_t *bymonth, size_t bymonth_length,
-    const int16_t *bymonthday, size_t bymonthday_length,
-    const int16_t *byyearday, size_t byyearday_length,
-    const int16_t *byweekno, size_t byweekno_length,
-    const int16_t *byday_n, size_t byday_n_length,
-    const int16_t *byday_weekday, size_t byday_weekday_length,
-    const int16_t *byhour, size_t byhour_length,
-    const int16_t *byminute, size_t byminute_length,
-    const int16_t *bysecond, size_t bysecond_length,
-    const int16_t *bysetpos, size_t bysetpos_length,
-    uint8_t *text, size_t text_length, size_t *length);
 
 /* The first cursor of a record.
  *
