@@ -38,7 +38,8 @@ loop-value-smaller c = omega (arith, (digit (goal.at.loop-value-smaller c).In-lo
 
 pub loop-value-preserved : goal.loop-value-preserved
 loop-value-preserved c =
-    rw c.with_digit-value.ensures (one_more c.loop-value.invariant.0 (digit (goal.at.loop-value-preserved c).In-loop-value), field_more _ _ _ (omega arith) c.loop-value.invariant.0.begun (digit (goal.at.loop-value-preserved c).In-loop-value))
+    let here = goal.at.loop-value-preserved c in
+    rw c.with_digit-value.ensures (one_more c.loop-value.invariant.0 (digit here.In-loop-value), field_more _ _ _ (omega arith) c.loop-value.invariant.0.begun (digit here.In-loop-value))
 
 -- where the loop ends no digit may come
 none : (c : After-loop-value) → (let a = c.args in

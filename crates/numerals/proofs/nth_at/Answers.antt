@@ -19,7 +19,9 @@ tests : (c : After-is_at-2) → (let a = c.args in
 tests c = sym (one_of_three c.is_digit_at.ensures c.is_at.ensures c.is_at-2.ensures)
 
 pub returns-then-is_digit_at-is_at : goal.returns-then-is_digit_at-is_at
-returns-then-is_digit_at-is_at c = c.signed_at.ensures ∙ nth_there _ _ (tests (goal.at.returns-then-is_digit_at-is_at c).After-is_at-2 ∙ c.if-is_digit_at-is_at.true)
+returns-then-is_digit_at-is_at c =
+    let here = goal.at.returns-then-is_digit_at-is_at c in
+    c.signed_at.ensures ∙ nth_there _ _ (tests here.After-is_at-2 ∙ c.if-is_digit_at-is_at.true)
 
 pub returns : goal.returns
 returns c = nth_missing _ _ (tests (goal.at.returns c).After-is_at-2 ∙ c.if-is_digit_at-is_at.false)

@@ -38,7 +38,8 @@ loop-value-smaller c = omega (arith, (digit (goal.at.loop-value-smaller c).In-lo
 
 pub loop-value-preserved : goal.loop-value-preserved
 loop-value-preserved c =
-    rw c.with_digit-value.ensures (one_more c.loop-value.invariant.0 (digit (goal.at.loop-value-preserved c).In-loop-value), few_more _ c.loop-value.invariant.0.begun c.loop-value.invariant.1 (digit (goal.at.loop-value-preserved c).In-loop-value))
+    let here = goal.at.loop-value-preserved c in
+    rw c.with_digit-value.ensures (one_more c.loop-value.invariant.0 (digit here.In-loop-value), few_more _ c.loop-value.invariant.0.begun c.loop-value.invariant.1 (digit here.In-loop-value))
 
 -- where the loop ends no digit may come
 none : (c : After-loop-value) → (let a = c.args in
@@ -50,4 +51,5 @@ overflow_sub-place-2 c = omega (arith, c.loop-value.invariant.0.begun)
 
 pub returns : goal.returns
 returns c =
-    record { value = c.reached.ensures ∙ at_last _ c.loop-value.invariant.0 (none (goal.at.returns c).After-loop-value) refl; value_bound = shown_small _ _ _ c.reached.ensures (few_small c.loop-value.invariant.1) }
+    let here = goal.at.returns c in
+    record { value = c.reached.ensures ∙ at_last _ c.loop-value.invariant.0 (none here.After-loop-value) refl; value_bound = shown_small _ _ _ c.reached.ensures (few_small c.loop-value.invariant.1) }

@@ -49,13 +49,13 @@ ready : (c : Else-not-kept-is_framed) →
 ready c = (walkable_told _ _ _ _ (walkable c)).1
 
 -- the same at a turn of the loop
-few-kept : (c : At-loop-i) → c.args.kept ≤ 732
-few-kept c = leb-true _ _ (both (leb c.args.kept 732) _ (not-false _ c.if-not-kept-is_framed.false-raw)).0
+few_kept : (c : At-loop-i) → c.args.kept ≤ 732
+few_kept c = leb-true _ _ (both (leb c.args.kept 732) _ (not-false _ c.if-not-kept-is_framed.false-raw)).0
 
-still-walkable : (c : At-loop-i) →
+still_walkable : (c : At-loop-i) →
     let a = c.args in
     is_walkable a.frame a.bounds a.held a.buffer.now ≡ true
-still-walkable c =
+still_walkable c =
     let a = c.args in
     walkable_by a.frame a.bounds a.held a.buffer.now _ _ true c.is_framed.ensures c.is_ready.ensures
     (both (leb a.kept 732) _ (not-false _ c.if-not-kept-is_framed.false-raw)).1
@@ -65,7 +65,7 @@ whole : (c : At-loop-i) →
     let a = c.args in
     places_walk a.frame a.bounds a.held a.kept a.places.now a.days.now a.lists.now a.buffer.now
     ≡ walk_from a.bounds (second_chosen a.frame a.days.now a.lists.now a.places.now) a.kept c.loop-i.at c.loop-i.buffer
-whole c = places_walked _ _ _ _ _ _ _ _ (few-kept c) (still-walkable c) ∙ c.loop-i.invariant.6
+whole c = places_walked _ _ _ _ _ _ _ _ (few_kept c) (still_walkable c) ∙ c.loop-i.invariant.6
 
 -- a slot is free
 free : (c : Else-slot-buffer) →
@@ -74,21 +74,21 @@ free : (c : Else-slot-buffer) →
 free c e = omega (arith, e, c.if-slot-buffer.false)
 
 -- the candidate in hand, as the second that the code has
-in-hand : (c : After-second_at-second) →
+in_hand : (c : After-second_at-second) →
     let l = c in
     let a = l.args in
     c.second_at-second.result ≡ second_chosen a.frame a.days.now a.lists.now a.places.now l.loop-i.at.cursor.place
-in-hand c =
+in_hand c =
     let l = c in
     let a = l.args in
     second_chosen_lem _ _ _ _ _ l.loop-i.i _ l.loop-i.invariant.1
     (c.second_at-second.ensures ∙ year_kept a.frame a.days.now a.lists.now _ (framed c))
 
 -- it is not above UNTIL
-on-time : (c : Else-is_late) →
+on_time : (c : Else-is_late) →
     let k = c in
     above (bound_of k.args.bounds.until) k.second_at-second.result ≡ false
-on-time c = sym c.is_late.ensures ∙ c.if-is_late.false
+on_time c = sym c.is_late.ensures ∙ c.if-is_late.false
 
 -- the buffer is short enough that neither count can wrap
 room : (c : At-loop-i) → length c.loop-i.buffer * 8 < 2 ^ 63
@@ -97,11 +97,11 @@ room c = rw c.loop-i.invariant.5 c.well_formed.1.1.1.1.1.1.1.0.1
 number_small : (c : At-loop-i) → c.loop-i.at.cursor.number + 1 < 2 ^ 64
 number_small c =
     let r : length c.loop-i.buffer * 8 < 2 ^ 63 = room c in
-    let p : c.args.held.cursor.number < 2 ^ 63 = (walkable_told _ _ _ _ (still-walkable c)).1.number in
+    let p : c.args.held.cursor.number < 2 ^ 63 = (walkable_told _ _ _ _ (still_walkable c)).1.number in
     omega (arith, c.loop-i.invariant.2, c.loop-i.invariant.3, c.loop-i.invariant.4)
 
-handed-small : (c : At-loop-i) → c.loop-i.at.handed < 2 ^ 63
-handed-small c = omega (arith, room c, c.loop-i.invariant.4)
+handed_small : (c : At-loop-i) → c.loop-i.at.handed < 2 ^ 63
+handed_small c = omega (arith, room c, c.loop-i.invariant.4)
 
 pub returns-then-not-kept-is_framed : goal.returns-then-not-kept-is_framed
 returns-then-not-kept-is_framed c =
@@ -126,6 +126,7 @@ overflow_add-place c = omega (arith, few (goal.at.overflow_add-place c).Else-not
 
 pub loop-i-preserved-then-second-bounds : goal.loop-i-preserved-then-second-bounds
 loop-i-preserved-then-second-bounds c =
+    let here = goal.at.loop-i-preserved-then-second-bounds c in
     let k = c in
     let e = k in
     let l = e in (
@@ -136,7 +137,7 @@ loop-i-preserved-then-second-bounds c =
       omega arith,
       omega arith,
       l.loop-i.invariant.6
-          ∙ rest_pass _ _ _ _ _ (omega arith) _ (in-hand (goal.at.loop-i-preserved-then-second-bounds c).After-second_at-second) (free (goal.at.loop-i-preserved-then-second-bounds c).Else-slot-buffer) (on-time (goal.at.loop-i-preserved-then-second-bounds c).Else-is_late) c.if-second-bounds.true,
+          ∙ rest_pass _ _ _ _ _ (omega arith) _ (in_hand here.After-second_at-second) (free here.Else-slot-buffer) (on_time here.Else-is_late) c.if-second-bounds.true,
       l.loop-i.invariant.7,
     )
 
@@ -154,10 +155,11 @@ overflow_add-number c = record { fits = omega (arith, number_small (goal.at.over
 pub overflow_add-at : goal.overflow_add-at
 overflow_add-at c =
     let l = c in
-    record { fits = omega (arith, handed-small (goal.at.overflow_add-at c).At-loop-i) }
+    record { fits = omega (arith, handed_small (goal.at.overflow_add-at c).At-loop-i) }
 
 pub loop-i-preserved : goal.loop-i-preserved
 loop-i-preserved c =
+    let here = goal.at.loop-i-preserved c in
     let t = c in
     let k = t in
     let e = k in
@@ -169,37 +171,41 @@ loop-i-preserved c =
       simp length-set (omega arith),
       simp length-set (omega arith),
       l.loop-i.invariant.6
-          ∙ rest_hand _ _ _ _ _ (omega arith) _ (in-hand (goal.at.loop-i-preserved c).After-second_at-second) (free (goal.at.loop-i-preserved c).Else-slot-buffer) (on-time (goal.at.loop-i-preserved c).Else-is_late) t.if-second-bounds.false
+          ∙ rest_hand _ _ _ _ _ (omega arith) _ (in_hand here.After-second_at-second) (free here.Else-slot-buffer) (on_time here.Else-is_late) t.if-second-bounds.false
           (sym c.is_reached.ensures ∙ c.if-is_reached.false),
       l.loop-i.invariant.7,
     )
 
 pub returns-after-loop-i : goal.returns-after-loop-i
 returns-after-loop-i c =
+    let here = goal.at.returns-after-loop-i c in
     let l = c in
-    record { walked = sym (whole (goal.at.returns-after-loop-i c).At-loop-i ∙ rest_over _ _ _ _ _ (omega arith) ∙ ap (λ (w : Why). stops w l.loop-i.at l.loop-i.buffer) (sym l.loop-i.invariant.0)); state = l.loop-i.invariant.7 }
+    record { walked = sym (whole here.At-loop-i ∙ rest_over _ _ _ _ _ (omega arith) ∙ ap (λ (w : Why). stops w l.loop-i.at l.loop-i.buffer) (sym l.loop-i.invariant.0)); state = l.loop-i.invariant.7 }
 
 pub returns-then-slot-buffer : goal.returns-then-slot-buffer
 returns-then-slot-buffer c =
+    let here = goal.at.returns-then-slot-buffer c in
     let l = c in
-    record { walked = sym (whole (goal.at.returns-then-slot-buffer c).At-loop-i ∙ rest_full _ _ _ _ _ (omega arith) c.if-slot-buffer.true); state = l.loop-i.invariant.7 }
+    record { walked = sym (whole here.At-loop-i ∙ rest_full _ _ _ _ _ (omega arith) c.if-slot-buffer.true); state = l.loop-i.invariant.7 }
 
 pub returns-then-is_late : goal.returns-then-is_late
 returns-then-is_late c =
+    let here = goal.at.returns-then-is_late c in
     let k = c in
     let e = k in
     let l = e in
-    record { walked = sym (whole (goal.at.returns-then-is_late c).At-loop-i ∙ rest_until _ _ _ _ _ (omega arith) _ (in-hand (goal.at.returns-then-is_late c).After-second_at-second) (free (goal.at.returns-then-is_late c).Else-slot-buffer) (sym c.is_late.ensures ∙ c.if-is_late.true)); state = l.loop-i.invariant.7 }
+    record { walked = sym (whole here.At-loop-i ∙ rest_until _ _ _ _ _ (omega arith) _ (in_hand here.After-second_at-second) (free here.Else-slot-buffer) (sym c.is_late.ensures ∙ c.if-is_late.true)); state = l.loop-i.invariant.7 }
 
 pub returns-then-is_reached : goal.returns-then-is_reached
 returns-then-is_reached c =
+    let here = goal.at.returns-then-is_reached c in
     let t = c in
     let k = t in
     let e = k in
     let l = e in record {
       walked = sym
-          (whole (goal.at.returns-then-is_reached c).At-loop-i
-          ∙ rest_count _ _ _ _ _ (omega arith) _ (in-hand (goal.at.returns-then-is_reached c).After-second_at-second) (free (goal.at.returns-then-is_reached c).Else-slot-buffer) (on-time (goal.at.returns-then-is_reached c).Else-is_late) t.if-second-bounds.false
+          (whole here.At-loop-i
+          ∙ rest_count _ _ _ _ _ (omega arith) _ (in_hand here.After-second_at-second) (free here.Else-slot-buffer) (on_time here.Else-is_late) t.if-second-bounds.false
           (sym c.is_reached.ensures ∙ c.if-is_reached.true));
       state = l.loop-i.invariant.7;
     }

@@ -8,13 +8,13 @@ use Rattle.clocks.specs.Clocks.{written, row_of, or_all, clock_of}
 use Rattle.clocks.proofs.iterinfo.get_clock.Goals as goal
 
 -- the row from the three sets, written one after the other
-put-together : (h m s a b c : List Bool) → length h ≡ 24 → length m ≡ 60 → length s ≡ 60
+put_together : (h m s a b c : List Bool) → length h ≡ 24 → length m ≡ 60 → length s ≡ 60
     → a ≡ written (replicate 144 false) 0 (or_all (length h) h)
     → b ≡ written a 24 (or_all (length m) m)
     → c ≡ written b 84 (or_all (length s) s)
     → c ≡ clock_of h m s
 unfolding clock_of row_of
-put-together h m s a b c i j k x y z = rw (z, y, x, i, j, k)
+put_together h m s a b c i j k x y z = rw (z, y, x, i, j, k)
 
 pub returns : goal.returns
 returns c =
@@ -22,6 +22,6 @@ returns c =
     let second = third in
     let first = second in
     let a = first.args in
-    put-together a.byhour.now a.byminute.now a.bysecond.now _ _ _
+    put_together a.byhour.now a.byminute.now a.bysecond.now _ _ _
     first.put-arg-1.given second.put-arg-2-1.given third.put-arg-3-1.given
     first.put.ensures second.put-2.ensures third.put-3.ensures

@@ -56,8 +56,8 @@ begun : (c : Else-not-is_framed-is_ready) →
 begun c = days_walked _ _ _ _ _ _ (walkable c)
 
 -- the same at a turn of the inner loop
-still-walkable : (c : At-loop-time) → is_walkable c.args.frame c.args.bounds c.args.held c.args.buffer.now ≡ true
-still-walkable c =
+still_walkable : (c : At-loop-time) → is_walkable c.args.frame c.args.bounds c.args.held c.args.buffer.now ≡ true
+still_walkable c =
     let a = c.args in
     walkable_by a.frame a.bounds a.held a.buffer.now _ _ true
     c.is_framed.ensures c.is_ready.ensures (not-false _ c.if-not-is_framed-is_ready.false-raw)
@@ -67,13 +67,13 @@ whole : (c : At-loop-time) →
     let a = c.args in
     days_walk a.frame a.bounds a.held a.days.now a.lists.now a.buffer.now
     ≡ walk_from a.bounds (second_at a.frame a.days.now a.lists.now) (a.frame.days * a.frame.times) c.loop-time.at c.loop-time.buffer
-whole c = days_walked _ _ _ _ _ _ (still-walkable c) ∙ c.days.invariant.4 ∙ c.loop-time.invariant.4
+whole c = days_walked _ _ _ _ _ _ (still_walkable c) ∙ c.days.invariant.4 ∙ c.loop-time.invariant.4
 
 -- and the cursor's state is as it was
-state-kept : (c : At-loop-time) →
+state_kept : (c : At-loop-time) →
     c.loop-time.at.cursor.state
     ≡ c.args.held.cursor.state
-state-kept c = c.loop-time.invariant.3.4 ∙ c.days.invariant.3.4
+state_kept c = c.loop-time.invariant.3.4 ∙ c.days.invariant.3.4
 
 -- the place, by day and time; a candidate is there
 there : (c : In-loop-time) →
@@ -98,21 +98,21 @@ free : (c : Else-slot-buffer) →
 free c e = omega (arith, e, c.if-slot-buffer.false)
 
 -- the candidate in hand, as the second that the code has
-in-hand : (c : After-second_on-second) →
+in_hand : (c : After-second_on-second) →
     let l = c in
     let a = l.args in
     c.second_on-second.result ≡ second_at a.frame a.days.now a.lists.now l.loop-time.at.cursor.place
-in-hand c =
+in_hand c =
     let t = c in
     c.second_on-second.ensures ∙ second_there _ _ _ _ _ _ (there t.before.before.before) t.loop-time-test.true
 
 -- it is not above UNTIL
-on-time : (c : Else-is_late) →
+on_time : (c : Else-is_late) →
     let k = c in
     let l = k in
     let a = l.args in
     above (bound_of a.bounds.until) k.second_on-second.result ≡ false
-on-time c = sym c.is_late.ensures ∙ c.if-is_late.false
+on_time c = sym c.is_late.ensures ∙ c.if-is_late.false
 
 -- the buffer is short enough that neither count can wrap
 room : (c : At-loop-time) → length c.loop-time.buffer * 8 < 2 ^ 63
@@ -123,11 +123,11 @@ room c =
 number_small : (c : At-loop-time) → c.loop-time.at.cursor.number + 1 < 2 ^ 64
 number_small c =
     let d = c in
-    let p = (walkable_told _ _ _ _ (still-walkable c)).1.number in
+    let p = (walkable_told _ _ _ _ (still_walkable c)).1.number in
     omega (arith, room c, p, c.loop-time.invariant.3, d.days.invariant.3)
 
-handed-small : (c : At-loop-time) → c.loop-time.at.handed < 2 ^ 63
-handed-small c = omega (arith, room c, c.loop-time.invariant.3.2)
+handed_small : (c : At-loop-time) → c.loop-time.at.handed < 2 ^ 63
+handed_small c = omega (arith, room c, c.loop-time.invariant.3.2)
 
 pub returns-then-not-is_framed-is_ready : goal.returns-then-not-is_framed-is_ready
 returns-then-not-is_framed-is_ready c =
@@ -140,8 +140,9 @@ returns-then-not-is_framed-is_ready c =
 
 pub returns-then-frame-eq0 : goal.returns-then-frame-eq0
 returns-then-frame-eq0 c =
+    let here = goal.at.returns-then-frame-eq0 c in
     let a = c.args in
-    record { walked = sym (begun (goal.at.returns-then-frame-eq0 c).Else-not-is_framed-is_ready ∙ rest_over _ _ _ _ _ (no_times _ _ a.held.cursor.place c.if-frame-eq0.true)); state = refl }
+    record { walked = sym (begun here.Else-not-is_framed-is_ready ∙ rest_over _ _ _ _ _ (no_times _ _ a.held.cursor.place c.if-frame-eq0.true)); state = refl }
 
 pub overflow_mul-time : goal.overflow_mul-time
 overflow_mul-time c =
@@ -181,6 +182,7 @@ overflow_add-place c =
 
 pub loop-time-preserved-then-second-bounds : goal.loop-time-preserved-then-second-bounds
 loop-time-preserved-then-second-bounds c =
+    let here = goal.at.loop-time-preserved-then-second-bounds c in
     let k = c in
     let t = k in
     let l = t in
@@ -191,8 +193,8 @@ loop-time-preserved-then-second-bounds c =
       omega arith,
       (omega arith, omega arith, omega arith, l.loop-time.invariant.3.3, l.loop-time.invariant.3.4),
       l.loop-time.invariant.4
-          ∙ rest_pass _ _ _ _ _ (within (goal.at.loop-time-preserved-then-second-bounds c).In-loop-time) _ (in-hand (goal.at.loop-time-preserved-then-second-bounds c).After-second_on-second) (free (goal.at.loop-time-preserved-then-second-bounds c).Else-slot-buffer)
-          (on-time (goal.at.loop-time-preserved-then-second-bounds c).Else-is_late) s,
+          ∙ rest_pass _ _ _ _ _ (within here.In-loop-time) _ (in_hand here.After-second_on-second) (free here.Else-slot-buffer)
+          (on_time here.Else-is_late) s,
     )
 
 pub overflow_sub-buffer : goal.overflow_sub-buffer
@@ -209,10 +211,11 @@ overflow_add-number c = record { fits = omega (arith, number_small (goal.at.over
 pub overflow_add-at : goal.overflow_add-at
 overflow_add-at c =
     let l = c in
-    record { fits = omega (arith, handed-small (goal.at.overflow_add-at c).At-loop-time) }
+    record { fits = omega (arith, handed_small (goal.at.overflow_add-at c).At-loop-time) }
 
 pub loop-time-preserved : goal.loop-time-preserved
 loop-time-preserved c =
+    let here = goal.at.loop-time-preserved c in
     let e = c in
     let k = e in
     let t = k in
@@ -222,8 +225,8 @@ loop-time-preserved c =
       omega arith,
       (omega arith, omega arith, simp length-set (omega arith), simp length-set l.loop-time.invariant.3.3, l.loop-time.invariant.3.4),
       l.loop-time.invariant.4
-          ∙ rest_hand _ _ _ _ _ (within (goal.at.loop-time-preserved c).In-loop-time) _ (in-hand (goal.at.loop-time-preserved c).After-second_on-second) (free (goal.at.loop-time-preserved c).Else-slot-buffer)
-          (on-time (goal.at.loop-time-preserved c).Else-is_late) e.if-second-bounds.false
+          ∙ rest_hand _ _ _ _ _ (within here.In-loop-time) _ (in_hand here.After-second_on-second) (free here.Else-slot-buffer)
+          (on_time here.Else-is_late) e.if-second-bounds.false
           (sym c.is_reached.ensures ∙ c.if-is_reached.false),
     )
 
@@ -258,17 +261,19 @@ returns-after-days c =
 
 pub returns-then-slot-buffer : goal.returns-then-slot-buffer
 returns-then-slot-buffer c =
+    let here = goal.at.returns-then-slot-buffer c in
     let t = c in
     let l = t in
     let e : l.loop-time.at.handed ≡ length l.loop-time.buffer = omega (arith, c.if-slot-buffer.true) in
-    record { walked = sym (whole (goal.at.returns-then-slot-buffer c).At-loop-time ∙ rest_full _ _ _ _ _ (within (goal.at.returns-then-slot-buffer c).In-loop-time) e); state = state-kept (goal.at.returns-then-slot-buffer c).At-loop-time }
+    record { walked = sym (whole here.At-loop-time ∙ rest_full _ _ _ _ _ (within here.In-loop-time) e); state = state_kept here.At-loop-time }
 
 pub returns-then-is_late : goal.returns-then-is_late
 returns-then-is_late c =
+    let here = goal.at.returns-then-is_late c in
     let k = c in
     let t = k in
     let l = t in
-    record { walked = sym (whole (goal.at.returns-then-is_late c).At-loop-time ∙ rest_until _ _ _ _ _ (within (goal.at.returns-then-is_late c).In-loop-time) _ (in-hand (goal.at.returns-then-is_late c).After-second_on-second) (free (goal.at.returns-then-is_late c).Else-slot-buffer) (sym c.is_late.ensures ∙ c.if-is_late.true)); state = state-kept (goal.at.returns-then-is_late c).At-loop-time }
+    record { walked = sym (whole here.At-loop-time ∙ rest_until _ _ _ _ _ (within here.In-loop-time) _ (in_hand here.After-second_on-second) (free here.Else-slot-buffer) (sym c.is_late.ensures ∙ c.if-is_late.true)); state = state_kept here.At-loop-time }
 
 pub shape_of-buffer-then-is_reached : goal.shape_of-buffer-then-is_reached
 shape_of-buffer-then-is_reached c =
@@ -277,14 +282,15 @@ shape_of-buffer-then-is_reached c =
 
 pub returns-then-is_reached : goal.returns-then-is_reached
 returns-then-is_reached c =
+    let here = goal.at.returns-then-is_reached c in
     let e = c in
     let k = e in
     let t = k in
     let l = t in record {
       walked = sym
-          (whole (goal.at.returns-then-is_reached c).At-loop-time
-          ∙ rest_count _ _ _ _ _ (within (goal.at.returns-then-is_reached c).In-loop-time) _ (in-hand (goal.at.returns-then-is_reached c).After-second_on-second) (free (goal.at.returns-then-is_reached c).Else-slot-buffer)
-          (on-time (goal.at.returns-then-is_reached c).Else-is_late) e.if-second-bounds.false
+          (whole here.At-loop-time
+          ∙ rest_count _ _ _ _ _ (within here.In-loop-time) _ (in_hand here.After-second_on-second) (free here.Else-slot-buffer)
+          (on_time here.Else-is_late) e.if-second-bounds.false
           (sym c.is_reached.ensures ∙ c.if-is_reached.true));
-      state = state-kept (goal.at.returns-then-is_reached c).At-loop-time;
+      state = state_kept here.At-loop-time;
     }

@@ -32,26 +32,27 @@ returns-then-days_of-place c =
 in_place : (c : Else-days_of-place) → c.args.place < days_of c.args.year.long + 7
 in_place c = omega (arith, c.days_of.ensures, c.if-days_of-place.false)
 
-in-mask : (c : Else-days_of-place) → c.args.place < 373
-in-mask c = omega (arith, in_place c, days_high c.args.year.long)
+in_mask : (c : Else-days_of-place) → c.args.place < 373
+in_mask c = omega (arith, in_place c, days_high c.args.year.long)
 
 pub is_filtered_by_month-requires : goal.is_filtered_by_month-requires
-is_filtered_by_month-requires c = in-mask c
+is_filtered_by_month-requires c = in_mask c
 
 pub is_filtered_by_month_day-requires : goal.is_filtered_by_month_day-requires
-is_filtered_by_month_day-requires c = in-mask (goal.at.is_filtered_by_month_day-requires c).Else-days_of-place
+is_filtered_by_month_day-requires c = in_mask (goal.at.is_filtered_by_month_day-requires c).Else-days_of-place
 
 pub is_filtered_by_year_day-requires : goal.is_filtered_by_year_day-requires
 is_filtered_by_year_day-requires c = in_place (goal.at.is_filtered_by_year_day-requires c).Else-days_of-place
 
 pub is_filtered_by_week_number-requires : goal.is_filtered_by_week_number-requires
-is_filtered_by_week_number-requires c = in-mask (goal.at.is_filtered_by_week_number-requires c).Else-days_of-place
+is_filtered_by_week_number-requires c = in_mask (goal.at.is_filtered_by_week_number-requires c).Else-days_of-place
 
 pub is_filtered_by_weekday-requires : goal.is_filtered_by_weekday-requires
-is_filtered_by_weekday-requires c = in-mask (goal.at.is_filtered_by_weekday-requires c).Else-days_of-place
+is_filtered_by_weekday-requires c = in_mask (goal.at.is_filtered_by_weekday-requires c).Else-days_of-place
 
 pub returns : goal.returns
 returns c =
+    let here = goal.at.returns c in
     let e = c in
     let s = e in
     rw (
@@ -61,4 +62,4 @@ returns c =
       c.is_filtered_by_month_day.ensures,
       c.is_filtered_by_month.ensures,
     )
-    (some_filters s.args.asked (info (goal.at.returns c).Start) (lists (goal.at.returns c).Start) s.args.place (lt-ltb s.args.place (days_of s.args.year.long + 7) (in_place (goal.at.returns c).Else-days_of-place)))
+    (some_filters s.args.asked (info here.Start) (lists here.Start) s.args.place (lt-ltb s.args.place (days_of s.args.year.long + 7) (in_place here.Else-days_of-place)))

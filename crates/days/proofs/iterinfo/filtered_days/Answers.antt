@@ -45,9 +45,10 @@ loop-place-init c =
 
 pub loop-place-preserved-then-is_filtered : goal.loop-place-preserved-then-is_filtered
 loop-place-preserved-then-is_filtered c =
+    let here = goal.at.loop-place-preserved-then-is_filtered c in
     let e = c in
     let s = e in
-    fill_no (test (goal.at.loop-place-preserved-then-is_filtered c).Start) e.stretch_end-stop.result (kept (goal.at.loop-place-preserved-then-is_filtered c).Start) s.args.days.now c.loop-place.days c.loop-place.count c.loop-place.place
+    fill_no (test here.Start) e.stretch_end-stop.result (kept here.Start) s.args.days.now c.loop-place.days c.loop-place.count c.loop-place.place
     c.loop-place-test.true (not-true _ (sym c.is_filtered.ensures ∙ c.if-is_filtered.true)) c.loop-place.invariant
 
 pub overflow_cast-days : goal.overflow_cast-days
@@ -61,12 +62,14 @@ bounds-days-count c = search (rules, in_tables (goal.at.bounds-days-count c).Aft
 
 pub loop-place-preserved : goal.loop-place-preserved
 loop-place-preserved c =
+    let here = goal.at.loop-place-preserved c in
     let e = c in
     let s = e in
-    fill_yes (test (goal.at.loop-place-preserved c).Start) e.stretch_end-stop.result (kept (goal.at.loop-place-preserved c).Start) s.args.days.now c.loop-place.days c.loop-place.count c.loop-place.place
+    fill_yes (test here.Start) e.stretch_end-stop.result (kept here.Start) s.args.days.now c.loop-place.days c.loop-place.count c.loop-place.place
     c.loop-place-test.true (not-false _ (sym c.is_filtered.ensures ∙ c.if-is_filtered.false)) c.loop-place.invariant
 
 pub returns : goal.returns
 returns c =
+    let here = goal.at.returns c in
     let s = c in
-    let w = fill_ends (test (goal.at.returns c).Start) c.stretch_end-stop.result (kept (goal.at.returns c).Start) s.args.days.now c.loop-place.days c.loop-place.count c.loop-place.place c.loop-place-test.false c.loop-place.invariant in record { count = w.0; places = w.1 }
+    let w = fill_ends (test here.Start) c.stretch_end-stop.result (kept here.Start) s.args.days.now c.loop-place.days c.loop-place.count c.loop-place.place c.loop-place-test.false c.loop-place.invariant in record { count = w.0; places = w.1 }

@@ -24,12 +24,13 @@ next_marked-place-requires c = (omega (arith, c.requires.0), c.requires.1)
 pub loop-place-init : goal.loop-place-init
 unfolding marked_days
 loop-place-init c =
+    let here = goal.at.loop-place-init c in
     let s = c in
     let a = s.args in
     let d = a.days.now in
     let f = c.next_marked-place.ensures in (
-      fill_skips (test (goal.at.loop-place-init c).Start) a.end (kept (goal.at.loop-place-init c).Start) d d 0 a.from c.next_marked-place.result f.low f.high f.blank
-          (fill_begins (test (goal.at.loop-place-init c).Start) a.end (kept (goal.at.loop-place-init c).Start) d d 0 0 a.from refl),
+      fill_skips (test here.Start) a.end (kept here.Start) d d 0 a.from c.next_marked-place.result f.low f.high f.blank
+          (fill_begins (test here.Start) a.end (kept here.Start) d d 0 0 a.from refl),
       f.high,
       f.marked,
     )
@@ -42,19 +43,21 @@ loop-place-smaller c = omega (arith, c.next_marked-place-in-loop-place.ensures.l
 
 pub loop-place-preserved : goal.loop-place-preserved
 loop-place-preserved c =
+    let here = goal.at.loop-place-preserved c in
     let s = c in
     let a = s.args in
     let h = c.loop-place-test.true in
     let f = c.next_marked-place-in-loop-place.ensures in (
-      fill_skips (test (goal.at.loop-place-preserved c).Start) a.end (kept (goal.at.loop-place-preserved c).Start) a.days.now (set c.loop-place.days c.loop-place.marked c.loop-place.place) (c.loop-place.marked + 1) (c.loop-place.place + 1)
+      fill_skips (test here.Start) a.end (kept here.Start) a.days.now (set c.loop-place.days c.loop-place.marked c.loop-place.place) (c.loop-place.marked + 1) (c.loop-place.place + 1)
           c.next_marked-place-in-loop-place.result f.low f.high f.blank
-          (fill_yes (test (goal.at.loop-place-preserved c).Start) a.end (kept (goal.at.loop-place-preserved c).Start) a.days.now c.loop-place.days c.loop-place.marked c.loop-place.place h (c.loop-place.invariant.2 h) c.loop-place.invariant.0),
+          (fill_yes (test here.Start) a.end (kept here.Start) a.days.now c.loop-place.days c.loop-place.marked c.loop-place.place h (c.loop-place.invariant.2 h) c.loop-place.invariant.0),
       f.high,
       f.marked,
     )
 
 pub returns : goal.returns
 returns c =
+    let here = goal.at.returns c in
     let s = c in
     let a = s.args in
-    let w = fill_ends (test (goal.at.returns c).Start) a.end (kept (goal.at.returns c).Start) a.days.now c.loop-place.days c.loop-place.marked c.loop-place.place c.loop-place-test.false c.loop-place.invariant.0 in record { count = w.0; places = w.1 }
+    let w = fill_ends (test here.Start) a.end (kept here.Start) a.days.now c.loop-place.days c.loop-place.marked c.loop-place.place c.loop-place-test.false c.loop-place.invariant.0 in record { count = w.0; places = w.1 }

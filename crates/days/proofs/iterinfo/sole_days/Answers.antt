@@ -41,10 +41,11 @@ year_days-requires c = let e = c in (in_tables (goal.at.year_days-requires c).Af
 
 pub returns-then-asked : goal.returns-then-asked
 returns-then-asked c =
+    let here = goal.at.returns-then-asked c in
     let e = c in
     let a = e.args in
     let w = as_set _ _ _ _ _
-    (as_promised (goal.at.returns-then-asked c).After-stretch_end-end _ (sole_year_days a.asked a.year a.byyearday.now a.byday.now a.weeks.now a.nths.now a.from e.stretch_end-end.result
+    (as_promised here.After-stretch_end-end _ (sole_year_days a.asked a.year a.byyearday.now a.byday.now a.weeks.now a.nths.now a.from e.stretch_end-end.result
     c.if-asked.true))
     c.year_days.ensures.count c.year_days.ensures.places in record { count = w.0; places = w.1 }
 
@@ -53,24 +54,28 @@ marked_days-requires c = let n = c in (n.if-end-from.false, in_tables (goal.at.m
 
 pub returns-then-asked-2 : goal.returns-then-asked-2
 returns-then-asked-2 c =
+    let here = goal.at.returns-then-asked-2 c in
     let e = c in
     let a = e.args in
     let w = as_set _ _ _ _ _
-    (as_promised (goal.at.returns-then-asked-2 c).After-stretch_end-end _ (sole_weeks a.asked a.year a.byyearday.now a.byday.now a.weeks.now a.nths.now a.from e.stretch_end-end.result
+    (as_promised here.After-stretch_end-end _ (sole_weeks a.asked a.year a.byyearday.now a.byday.now a.weeks.now a.nths.now a.from e.stretch_end-end.result
     c.if-asked.false c.if-asked-2.true))
     c.marked_days.ensures.count c.marked_days.ensures.places in record { count = w.0; places = w.1 }
 
 pub marked_days-requires-then-asked-has_every : goal.marked_days-requires-then-asked-has_every
-marked_days-requires-then-asked-has_every c = let n = c in (n.if-end-from.false, in_tables (goal.at.marked_days-requires-then-asked-has_every c).After-stretch_end-end)
+marked_days-requires-then-asked-has_every c =
+    let here = goal.at.marked_days-requires-then-asked-has_every c in
+    let n = c in (n.if-end-from.false, in_tables here.After-stretch_end-end)
 
 pub returns-then-asked-has_every : goal.returns-then-asked-has_every
 returns-then-asked-has_every c =
+    let here = goal.at.returns-then-asked-has_every c in
     let v = c in
     let e = v in
     let a = e.args in
     let h = both a.asked.nth (not v.has_every.result) c.if-asked-has_every.true in
     let w = as_set _ _ _ _ _
-    (as_promised (goal.at.returns-then-asked-has_every c).After-stretch_end-end _ (sole_weekdays a.asked a.year a.byyearday.now a.byday.now a.weeks.now a.nths.now a.from e.stretch_end-end.result
+    (as_promised here.After-stretch_end-end _ (sole_weekdays a.asked a.year a.byyearday.now a.byday.now a.weeks.now a.nths.now a.from e.stretch_end-end.result
     v.if-asked.false v.if-asked-2.false
     ∙ by_nths a.asked.nth a.year.first a.byday.now a.nths.now a.from e.stretch_end-end.result
     h.0 (sym v.has_every.ensures ∙ not-true _ h.1)))
@@ -81,10 +86,11 @@ weekday_days-requires c = let n = c in (n.if-end-from.false, in_tables (goal.at.
 
 pub returns : goal.returns
 returns c =
+    let here = goal.at.returns c in
     let v = c in
     let e = v in
     let a = e.args in
     let w = as_set _ _ _ _ _
-    (as_promised (goal.at.returns c).After-stretch_end-end _ (sole_weekdays a.asked a.year a.byyearday.now a.byday.now a.weeks.now a.nths.now a.from e.stretch_end-end.result
+    (as_promised here.After-stretch_end-end _ (sole_weekdays a.asked a.year a.byyearday.now a.byday.now a.weeks.now a.nths.now a.from e.stretch_end-end.result
     v.if-asked.false v.if-asked-2.false))
     c.weekday_days.ensures.count c.weekday_days.ensures.places in record { count = w.0; places = w.1 }

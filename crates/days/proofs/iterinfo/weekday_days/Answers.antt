@@ -33,9 +33,10 @@ tested nth first byday nths place today r e t = t ∙ weekday_read true nth firs
 pub loop-place-init : goal.loop-place-init
 unfolding weekday_days
 loop-place-init c =
+    let here = goal.at.loop-place-init c in
     let s = c in
     let d = s.args.days.now in
-    (fill_begins (test (goal.at.loop-place-init c).Start) s.args.end (kept (goal.at.loop-place-init c).Start) d d 0 0 s.args.from refl, c.weekday_at-weekday.ensures)
+    (fill_begins (test here.Start) s.args.end (kept here.Start) d d 0 0 s.args.from refl, c.weekday_at-weekday.ensures)
 
 pub is_filtered_on-out-requires : goal.is_filtered_on-out-requires
 is_filtered_on-out-requires c =
@@ -47,9 +48,10 @@ next_weekday-weekday-requires c = let e = c.loop-place.invariant.1 in omega arit
 
 pub loop-place-preserved : goal.loop-place-preserved
 loop-place-preserved c =
+    let here = goal.at.loop-place-preserved c in
     let s = c in
     let a = s.args in (
-      fill_keeps (test (goal.at.loop-place-preserved c).Start) a.end (kept (goal.at.loop-place-preserved c).Start) a.days.now c.loop-place.days c.loop-place.passed c.loop-place.place c.is_filtered_on-out.result _ c.keep-passed.result
+      fill_keeps (test here.Start) a.end (kept here.Start) a.days.now c.loop-place.days c.loop-place.passed c.loop-place.place c.is_filtered_on-out.result _ c.keep-passed.result
           c.loop-place-test.true
           (tested a.nth a.first a.byday.now a.nths.now c.loop-place.place c.loop-place.weekday c.is_filtered_on-out.result c.loop-place.invariant.1 c.is_filtered_on-out.ensures)
           c.keep-passed.ensures.count c.keep-passed.ensures.places c.loop-place.invariant.0,
@@ -58,5 +60,6 @@ loop-place-preserved c =
 
 pub returns : goal.returns
 returns c =
+    let here = goal.at.returns c in
     let s = c in
-    let w = fill_ends (test (goal.at.returns c).Start) s.args.end (kept (goal.at.returns c).Start) s.args.days.now c.loop-place.days c.loop-place.passed c.loop-place.place c.loop-place-test.false c.loop-place.invariant.0 in record { count = w.0; places = w.1 }
+    let w = fill_ends (test here.Start) s.args.end (kept here.Start) s.args.days.now c.loop-place.days c.loop-place.passed c.loop-place.place c.loop-place-test.false c.loop-place.invariant.0 in record { count = w.0; places = w.1 }

@@ -23,12 +23,14 @@ loop-place-init c = let d = c.args.days.now in fill_begins (test c) c.args.end (
 
 pub loop-place-preserved : goal.loop-place-preserved
 loop-place-preserved c =
+    let here = goal.at.loop-place-preserved c in
     let s = c in
-    fill_keeps (test (goal.at.loop-place-preserved c).Start) s.args.end (kept (goal.at.loop-place-preserved c).Start) s.args.days.now c.loop-place.days c.loop-place.found c.loop-place.place
+    fill_keeps (test here.Start) s.args.end (kept here.Start) s.args.days.now c.loop-place.days c.loop-place.found c.loop-place.place
     c.is_filtered_by_year_day-out.result _ c.keep-found.result c.loop-place-test.true
     c.is_filtered_by_year_day-out.ensures c.keep-found.ensures.count c.keep-found.ensures.places c.loop-place.invariant
 
 pub returns : goal.returns
 returns c =
+    let here = goal.at.returns c in
     let s = c in
-    let w = fill_ends (test (goal.at.returns c).Start) s.args.end (kept (goal.at.returns c).Start) s.args.days.now c.loop-place.days c.loop-place.found c.loop-place.place c.loop-place-test.false c.loop-place.invariant in record { count = w.0; places = w.1 }
+    let w = fill_ends (test here.Start) s.args.end (kept here.Start) s.args.days.now c.loop-place.days c.loop-place.found c.loop-place.place c.loop-place-test.false c.loop-place.invariant in record { count = w.0; places = w.1 }

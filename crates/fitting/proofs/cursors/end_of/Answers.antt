@@ -18,11 +18,11 @@ small c =
     let w = neither (leb 4194304 c.args.to) (leb 86400 c.args.tick) c.if-to-tick.false in
     (leb-false _ _ w.0, leb-false _ _ w.1)
 
-last-day : (c : After-less) → c.less.result * 86400 ≤ 4194304 * 86400
-last-day c = let s = (small c.before).0 in omega (arith, s, c.less.ensures)
+last_day : (c : After-less) → c.less.result * 86400 ≤ 4194304 * 86400
+last_day c = let s = (small c.before).0 in omega (arith, s, c.less.ensures)
 
-last-unit : (c : After-unit_of) → (c.args.tick + 1) * c.unit_of.result ≤ 86400 * 86400
-last-unit c =
+last_unit : (c : After-unit_of) → (c.args.tick + 1) * c.unit_of.result ≤ 86400 * 86400
+last_unit c =
     let s = (small c.before.before).1 in
     let t : c.args.tick + 1 ≤ 86400 = omega (arith, s) in
     let u : c.unit_of.result ≤ 86400 = omega (arith, c.unit_of.ensures, unit_small c.args.freq) in
@@ -33,16 +33,16 @@ unfolding end_in
 returns-then-to-tick c = rw c.if-to-tick.true
 
 pub overflow_mul-result : goal.overflow_mul-result
-overflow_mul-result c = omega (arith, last-day c)
+overflow_mul-result c = omega (arith, last_day c)
 
 pub overflow_add-result : goal.overflow_add-result
 overflow_add-result c = let s = (small (goal.at.overflow_add-result c).Else-to-tick).1 in omega (arith, s)
 
 pub overflow_mul-result-2 : goal.overflow_mul-result-2
-overflow_mul-result-2 c = omega (arith, last-unit c)
+overflow_mul-result-2 c = omega (arith, last_unit c)
 
 pub overflow_add-result-2 : goal.overflow_add-result-2
-overflow_add-result-2 c = omega (arith, last-unit c, last-day (goal.at.overflow_add-result-2 c).After-less)
+overflow_add-result-2 c = omega (arith, last_unit c, last_day (goal.at.overflow_add-result-2 c).After-less)
 
 pub returns : goal.returns
 unfolding end_in

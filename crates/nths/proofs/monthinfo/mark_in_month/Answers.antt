@@ -52,13 +52,17 @@ pub bounds-monthdays-place : goal.bounds-monthdays-place
 bounds-monthdays-place c = in_tables (goal.at.bounds-monthdays-place c).In-loop-place
 
 pub overflow_cast-day : goal.overflow_cast-day
-overflow_cast-day c = let r = row_at (goal.at.overflow_cast-day c).In-loop-place in omega (arith, day_is (goal.at.overflow_cast-day c).In-loop-place, r.day_high, r.length_high)
+overflow_cast-day c =
+    let here = goal.at.overflow_cast-day c in
+    let r = row_at here.In-loop-place in omega (arith, day_is here.In-loop-place, r.day_high, r.length_high)
 
 pub bounds-fromends-place : goal.bounds-fromends-place
 bounds-fromends-place c = in_tables (goal.at.bounds-fromends-place c).In-loop-place
 
 pub overflow_cast-left : goal.overflow_cast-left
-overflow_cast-left c = let r = row_at (goal.at.overflow_cast-left c).In-loop-place in omega (arith, left_is (goal.at.overflow_cast-left c).In-loop-place, r.day_low, r.length_high)
+overflow_cast-left c =
+    let here = goal.at.overflow_cast-left c in
+    let r = row_at here.In-loop-place in omega (arith, left_is here.In-loop-place, r.day_low, r.length_high)
 
 pub nth_passes-requires : goal.nth_passes-requires
 nth_passes-requires c =
@@ -79,12 +83,13 @@ loop-place-smaller c = omega (arith, in_place (goal.at.loop-place-smaller c).In-
 
 pub loop-place-preserved : goal.loop-place-preserved
 loop-place-preserved c =
+    let here = goal.at.loop-place-preserved c in
     let b = c in
     let a = b.args in (
-      omega (arith, in_place (goal.at.loop-place-preserved c).In-loop-place),
+      omega (arith, in_place here.In-loop-place),
       omega (arith, b.loop-place.invariant.1),
-      one_marked (nth_at false a.year a.byday.now) a.year.first a.weekday a.mask.now b.loop-place.place b.loop-place.mask c.nth_passes.result (in_tables (goal.at.loop-place-preserved c).In-loop-place) b.loop-place.invariant.1
-          (c.nth_passes.ensures ∙ nth_in_month a.year a.byday.now b.loop-place.place a.weekday _ _ (lt-ltb _ _ (in_place (goal.at.loop-place-preserved c).In-loop-place)) (sym b.loop-place.invariant.1) (day_is (goal.at.loop-place-preserved c).In-loop-place) (left_is (goal.at.loop-place-preserved c).In-loop-place))
+      one_marked (nth_at false a.year a.byday.now) a.year.first a.weekday a.mask.now b.loop-place.place b.loop-place.mask c.nth_passes.result (in_tables here.In-loop-place) b.loop-place.invariant.1
+          (c.nth_passes.ensures ∙ nth_in_month a.year a.byday.now b.loop-place.place a.weekday _ _ (lt-ltb _ _ (in_place here.In-loop-place)) (sym b.loop-place.invariant.1) (day_is here.In-loop-place) (left_is here.In-loop-place))
           b.loop-place.invariant.2,
     )
 

@@ -45,12 +45,13 @@ overflow_add-place c = omega (arith, in_tables (goal.at.overflow_add-place c).In
 
 pub loop-place-preserved : goal.loop-place-preserved
 loop-place-preserved c =
+    let here = goal.at.loop-place-preserved c in
     let b = c in
     let a = b.args in (
       omega arith,
       omega arith,
-      one_marked (nth_at true a.year a.byday.now) a.year.first a.weekday a.mask.now b.loop-place.place b.loop-place.mask c.nth_passes.result (in_tables (goal.at.loop-place-preserved c).In-loop-place) b.loop-place.invariant.1
-          (c.nth_passes.ensures ∙ nth_in_year a.year a.byday.now b.loop-place.place a.weekday c.year_day-day.result c.year_day_from_end-left.result (lt-ltb _ _ (in_place (goal.at.loop-place-preserved c).In-loop-place)) (sym b.loop-place.invariant.1) c.year_day-day.ensures c.year_day_from_end-left.ensures)
+      one_marked (nth_at true a.year a.byday.now) a.year.first a.weekday a.mask.now b.loop-place.place b.loop-place.mask c.nth_passes.result (in_tables here.In-loop-place) b.loop-place.invariant.1
+          (c.nth_passes.ensures ∙ nth_in_year a.year a.byday.now b.loop-place.place a.weekday c.year_day-day.result c.year_day_from_end-left.result (lt-ltb _ _ (in_place here.In-loop-place)) (sym b.loop-place.invariant.1) c.year_day-day.ensures c.year_day_from_end-left.ensures)
           b.loop-place.invariant.2,
     )
 

@@ -17,16 +17,18 @@ lists s = let a = s.args in day_lists a.bymonth.now a.bymonthday.now a.byyearday
 
 pub returns-then-is_plain : goal.returns-then-is_plain
 returns-then-is_plain c =
+    let here = goal.at.returns-then-is_plain c in
     let s = c in
     let a = s.args in
     let w = as_set _ _ _ _ _
-    (by_none a.asked (info (goal.at.returns-then-is_plain c).Start) (lists (goal.at.returns-then-is_plain c).Start) a.from a.to (sym c.is_plain.ensures ∙ c.if-is_plain.true))
+    (by_none a.asked (info here.Start) (lists here.Start) a.from a.to (sym c.is_plain.ensures ∙ c.if-is_plain.true))
     c.plain_days.ensures.count c.plain_days.ensures.places in record { count = w.0; places = w.1 }
 
 pub returns-then-is_month_alone : goal.returns-then-is_month_alone
 returns-then-is_month_alone c =
+    let here = goal.at.returns-then-is_month_alone c in
     let s = c in
     let a = s.args in
     let w = as_set _ _ _ _ _
-    (by_month_alone a.asked (info (goal.at.returns-then-is_month_alone c).Start) (lists (goal.at.returns-then-is_month_alone c).Start) a.from a.to (sym c.is_month_alone.ensures ∙ c.if-is_month_alone.true))
+    (by_month_alone a.asked (info here.Start) (lists here.Start) a.from a.to (sym c.is_month_alone.ensures ∙ c.if-is_month_alone.true))
     c.days_by_month.ensures.count c.days_by_month.ensures.places in record { count = w.0; places = w.1 }

@@ -34,13 +34,15 @@ overflow_mul-second c =
 pub returns-then-second-ge86400 : goal.returns-then-second-ge86400
 unfolding tick_second
 returns-then-second-ge86400 c =
+    let here = goal.at.returns-then-second-ge86400 c in
     let u = c in
     let a = u.args in
-    rw (le-ltb a.tick (ticks a.freq) (past_ticks a.freq a.tick (omega (arith, second_is (goal.at.returns-then-second-ge86400 c).After-unit_of, c.if-second-ge86400.true))))
+    rw (le-ltb a.tick (ticks a.freq) (past_ticks a.freq a.tick (omega (arith, second_is here.After-unit_of, c.if-second-ge86400.true))))
 
 pub returns : goal.returns
 unfolding tick_second
 returns c =
+    let here = goal.at.returns c in
     let u = c in
     let a = u.args in
-    rw (lt-ltb a.tick (ticks a.freq) (within_ticks a.freq a.tick (omega (arith, second_is (goal.at.returns c).After-unit_of, c.if-second-ge86400.false)))) (second_is (goal.at.returns c).After-unit_of)
+    rw (lt-ltb a.tick (ticks a.freq) (within_ticks a.freq a.tick (omega (arith, second_is here.After-unit_of, c.if-second-ge86400.false)))) (second_is here.After-unit_of)

@@ -34,11 +34,11 @@ passes c =
     sym (c.is_passed.ensures ∙ ap (λ (m : ℕ). is_passed a.bounds (m + 86399)) c.midnight_of-midnight.ensures.is)
 
 -- where the loop has come to is where the days lead
-passed-so : (c : At-loop-day) →
+passed_so : (c : At-loop-day) →
     let a = c.args in
     Leads a.bounds a.frame a.days.now a.frame.days c.loop-day.day c.loop-day.at.cursor.place ≡ c.loop-day.at.cursor.place
     → c.loop-day.at ≡ passed_days a.full a.frame a.bounds a.held a.days.now
-passed-so c e =
+passed_so c e =
     let q = c in
     let a = q.args in
     c.loop-day.invariant.0
@@ -80,20 +80,22 @@ overflow_add-place c =
 
 pub loop-day-preserved : goal.loop-day-preserved
 loop-day-preserved c =
+    let here = goal.at.loop-day-preserved c in
     let e = c in
     let l = e in
     let a = l.args in (
       ap (λ (h : Held). held_at h (l.loop-day.at.cursor.place + a.frame.times)) l.loop-day.invariant.0,
       rw (next_day_lem l.loop-day.day a.frame.times, l.loop-day.invariant.1),
-      l.loop-day.invariant.2 ∙ leads_on _ _ _ _ _ _ e.loop-day-test.true (passes (goal.at.loop-day-preserved c).After-is_passed ∙ not-false _ e.if-not-is_passed.false-raw),
+      l.loop-day.invariant.2 ∙ leads_on _ _ _ _ _ _ e.loop-day-test.true (passes here.After-is_passed ∙ not-false _ e.if-not-is_passed.false-raw),
     )
 
 pub returns-after-loop-day : goal.returns-after-loop-day
 returns-after-loop-day c =
     let l = c in
-    passed-so (goal.at.returns-after-loop-day c).At-loop-day (leads_over _ _ _ _ _ _ c.loop-day-test.false)
+    passed_so (goal.at.returns-after-loop-day c).At-loop-day (leads_over _ _ _ _ _ _ c.loop-day-test.false)
 
 pub returns-then-not-is_passed : goal.returns-then-not-is_passed
 returns-then-not-is_passed c =
+    let here = goal.at.returns-then-not-is_passed c in
     let l = c in
-    passed-so (goal.at.returns-then-not-is_passed c).At-loop-day (leads_off _ _ _ _ _ _ c.loop-day-test.true (passes (goal.at.returns-then-not-is_passed c).After-is_passed ∙ not-true _ c.if-not-is_passed.true-raw))
+    passed_so here.At-loop-day (leads_off _ _ _ _ _ _ c.loop-day-test.true (passes here.After-is_passed ∙ not-true _ c.if-not-is_passed.true-raw))

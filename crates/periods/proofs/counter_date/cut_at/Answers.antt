@@ -10,8 +10,8 @@ use Rattle.periods.proofs.counter_date.cut_at.Goals as goal
 use Rattle.periods.proofs.counter_date.cut_at.Goals.{Start}
 
 -- the counter by the frequency that the match found
-cut-for : (a : Start) (f : Frequency) → a.args.freq ≡ f → cut f a.args.k a.args.number ≡ cut a.args.freq a.args.k a.args.number
-cut-for a f e = ap (λ (f : Frequency). cut f a.args.k a.args.number) (sym e)
+cut_for : (a : Start) (f : Frequency) → a.args.freq ≡ f → cut f a.args.k a.args.number ≡ cut a.args.freq a.args.k a.args.number
+cut_for a f e = ap (λ (f : Frequency). cut f a.args.k a.args.number) (sym e)
 
 pub returns-in-Yearly : goal.returns-in-Yearly
 returns-in-Yearly c = uncut c.args.freq _ _ (ap ticks c.in-Yearly.is)
@@ -26,10 +26,10 @@ pub returns-in-Daily : goal.returns-in-Daily
 returns-in-Daily c = uncut c.args.freq _ _ (ap ticks c.in-Daily.is)
 
 pub returns-in-Hourly : goal.returns-in-Hourly
-returns-in-Hourly c = cut-for (goal.at.returns-in-Hourly c).Start _ c.in-Hourly.is
+returns-in-Hourly c = cut_for (goal.at.returns-in-Hourly c).Start _ c.in-Hourly.is
 
 pub returns-in-Minutely : goal.returns-in-Minutely
-returns-in-Minutely c = cut-for (goal.at.returns-in-Minutely c).Start _ c.in-Minutely.is
+returns-in-Minutely c = cut_for (goal.at.returns-in-Minutely c).Start _ c.in-Minutely.is
 
 pub returns-in-Secondly : goal.returns-in-Secondly
-returns-in-Secondly c = cut-for (goal.at.returns-in-Secondly c).Start _ c.in-Secondly.is
+returns-in-Secondly c = cut_for (goal.at.returns-in-Secondly c).Start _ c.in-Secondly.is

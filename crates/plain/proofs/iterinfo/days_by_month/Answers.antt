@@ -40,8 +40,9 @@ bounds-months-place c = search (rules, in_tables (goal.at.bounds-months-place c)
 pub loop-place-preserved-then-not-has_month : goal.loop-place-preserved-then-not-has_month
 unfolding month_at
 loop-place-preserved-then-not-has_month c =
+    let here = goal.at.loop-place-preserved-then-not-has_month c in
     let e = c in
-    fill_no (test (goal.at.loop-place-preserved-then-not-has_month c).Start) e.stretch_end-stop.result (kept (goal.at.loop-place-preserved-then-not-has_month c).Start) e.args.days.now c.loop-place.days c.loop-place.taken c.loop-place.place
+    fill_no (test here.Start) e.stretch_end-stop.result (kept here.Start) e.args.days.now c.loop-place.days c.loop-place.taken c.loop-place.place
     c.loop-place-test.true (sym c.has_month.ensures ∙ not-true _ c.if-not-has_month.true-raw) c.loop-place.invariant
 
 pub overflow_cast-days : goal.overflow_cast-days
@@ -56,12 +57,14 @@ bounds-days-taken c = search (rules, in_tables (goal.at.bounds-days-taken c).Aft
 pub loop-place-preserved : goal.loop-place-preserved
 unfolding month_at
 loop-place-preserved c =
+    let here = goal.at.loop-place-preserved c in
     let e = c in
-    fill_yes (test (goal.at.loop-place-preserved c).Start) e.stretch_end-stop.result (kept (goal.at.loop-place-preserved c).Start) e.args.days.now c.loop-place.days c.loop-place.taken c.loop-place.place
+    fill_yes (test here.Start) e.stretch_end-stop.result (kept here.Start) e.args.days.now c.loop-place.days c.loop-place.taken c.loop-place.place
     c.loop-place-test.true (sym c.has_month.ensures ∙ not-false _ c.if-not-has_month.false-raw) c.loop-place.invariant
 
 pub returns : goal.returns
 returns c =
+    let here = goal.at.returns c in
     let e = c in
-    let w = fill_ends (test (goal.at.returns c).Start) e.stretch_end-stop.result (kept (goal.at.returns c).Start) e.args.days.now c.loop-place.days c.loop-place.taken c.loop-place.place
+    let w = fill_ends (test here.Start) e.stretch_end-stop.result (kept here.Start) e.args.days.now c.loop-place.days c.loop-place.taken c.loop-place.place
     c.loop-place-test.false c.loop-place.invariant in record { count = w.0; places = w.1 }

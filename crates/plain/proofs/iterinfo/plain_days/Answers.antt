@@ -39,12 +39,14 @@ bounds-days-written c = search (rules, in_tables (goal.at.bounds-days-written c)
 
 pub loop-place-preserved : goal.loop-place-preserved
 loop-place-preserved c =
+    let here = goal.at.loop-place-preserved c in
     let e = c in
-    fill_yes (λ _. true) e.stretch_end-end.result (all (goal.at.loop-place-preserved c).Start) e.args.days.now c.loop-place.days c.loop-place.written c.loop-place.place
+    fill_yes (λ _. true) e.stretch_end-end.result (all here.Start) e.args.days.now c.loop-place.days c.loop-place.written c.loop-place.place
     c.loop-place-test.true refl c.loop-place.invariant
 
 pub returns : goal.returns
 returns c =
+    let here = goal.at.returns c in
     let e = c in
-    let w = fill_ends (λ _. true) e.stretch_end-end.result (all (goal.at.returns c).Start) e.args.days.now c.loop-place.days c.loop-place.written c.loop-place.place
+    let w = fill_ends (λ _. true) e.stretch_end-end.result (all here.Start) e.args.days.now c.loop-place.days c.loop-place.written c.loop-place.place
     c.loop-place-test.false c.loop-place.invariant in record { count = w.0; places = w.1 }

@@ -17,12 +17,12 @@ use Rattle.plans.specs.declared.plan.Plan.{Plan}
 use Rattle.plans.specs.Plans.{shape_of, plan_from, second_in, until_in, plan_in}
 use Rattle.plans.proofs.plan.plan_of.Goals as goal
 
-not-not : (b : Bool) → not (not b) ≡ b
-not-not true = refl
-not-not false = refl
+not_not : (b : Bool) → not (not b) ≡ b
+not_not true = refl
+not_not false = refl
 
 -- the plan from its parts, as the code works them out
-put-together : (r : Rule) (asked : Asked) (clock : List Bool) (sets : TimeSet) (start number : ℕ) (until : Until) (empty : Bool)
+put_together : (r : Rule) (asked : Asked) (clock : List Bool) (sets : TimeSet) (start number : ℕ) (until : Until) (empty : Bool)
     → asked ≡ asked_of r
     → clock ≡ clock_of r.byhour r.byminute r.bysecond
     → sets ≡ timeset_of clock
@@ -45,7 +45,7 @@ put-together : (r : Rule) (asked : Asked) (clock : List Bool) (sets : TimeSet) (
       bounds = record { start = start; until = until; count = r.count };
     } (plan_in r)
 unfolding plan_in plan_from shape_of counts_in_year asked_of clock_in sets_in
-put-together r asked clock sets start number until empty a b c s u e f = rw (c, b, a, s, u, e, f, not-not (is_empty r.bymonth))
+put_together r asked clock sets start number until empty a b c s u e f = rw (c, b, a, s, u, e, f, not_not (is_empty r.bymonth))
 
 pub returns : goal.returns
 returns c =
@@ -56,6 +56,6 @@ returns c =
     let clock = sets in
     let start = clock in
     let asked = start in
-    put-together asked.args.rule _ _ _ _ _ _ _
+    put_together asked.args.rule _ _ _ _ _ _ _
     asked.asked_lists-asked.ensures clock.get_clock-clock.ensures sets.get_timeset-sets.ensures start.second_in-start.ensures
     until.until_in-until.ensures number.frequency_number-number.ensures empty.is_empty-positioned.ensures

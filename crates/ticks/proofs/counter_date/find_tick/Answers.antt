@@ -14,14 +14,14 @@ use Rattle.ticks.proofs.counter_date.find_tick.Goals as goal
 use Rattle.ticks.proofs.counter_date.find_tick.Goals.{After-tick_after-at, After-tick_passes, At-loop-n}
 
 -- the day's length, at every turn: some ticks, and few
-perday-is : (c : At-loop-n) → c.ticks_of-perday.result ≡ ticks c.args.freq
-perday-is c = c.ticks_of-perday.ensures
+perday_is : (c : At-loop-n) → c.ticks_of-perday.result ≡ ticks c.args.freq
+perday_is c = c.ticks_of-perday.ensures
 
 some : (c : At-loop-n) → 0 < c.ticks_of-perday.result
-some c = rw (perday-is c) (some_ticks c.args.freq)
+some c = rw (perday_is c) (some_ticks c.args.freq)
 
 few : (c : At-loop-n) → c.ticks_of-perday.result ≤ 86400
-few c = rw (perday-is c) (ticks_fit c.args.freq)
+few c = rw (perday_is c) (ticks_fit c.args.freq)
 
 pub returns-then-perday-tick : goal.returns-then-perday-tick
 returns-then-perday-tick c =
@@ -44,8 +44,9 @@ overflow_add-n c = omega (arith, few (goal.at.overflow_add-n c).At-loop-n)
 
 pub tick_after-at-requires : goal.tick_after-at-requires
 tick_after-at-requires c =
+    let here = goal.at.tick_after-at-requires c in
     let l = c in
-    (rw l.loop-n.invariant.1 (mod-lt _ (some (goal.at.tick_after-at-requires c).At-loop-n)), rw l.hop_of-hop.ensures (mod-lt _ (some (goal.at.tick_after-at-requires c).At-loop-n)), few (goal.at.tick_after-at-requires c).At-loop-n)
+    (rw l.loop-n.invariant.1 (mod-lt _ (some here.At-loop-n)), rw l.hop_of-hop.ensures (mod-lt _ (some here.At-loop-n)), few here.At-loop-n)
 
 -- after the step the tick is that of one period more
 stepped : (c : After-tick_after-at)
@@ -62,7 +63,9 @@ stepped c =
     ∙ tick_on_lem p a.interval a.tick l.loop-n.n
 
 pub tick_passes-requires : goal.tick_passes-requires
-tick_passes-requires c = let l = c in rw (stepped c, ← perday-is (goal.at.tick_passes-requires c).At-loop-n) (mod-lt _ (some (goal.at.tick_passes-requires c).At-loop-n))
+tick_passes-requires c =
+    let here = goal.at.tick_passes-requires c in
+    let l = c in rw (stepped c, ← perday_is here.At-loop-n) (mod-lt _ (some here.At-loop-n))
 
 tested : (c : After-tick_passes)
     → let l = c in
@@ -72,7 +75,7 @@ tested c =
     let l = c in
     let a = l.args in
     ap (λ (x : ℕ). tick_is_in a.freq a.clock.now x)
-    (ap (λ (x : ℕ). tick_on x a.interval a.tick (l.loop-n.n + 1)) (sym (perday-is l.before.before.before)) ∙ sym (stepped c.before))
+    (ap (λ (x : ℕ). tick_on x a.interval a.tick (l.loop-n.n + 1)) (sym (perday_is l.before.before.before)) ∙ sym (stepped c.before))
     ∙ sym c.tick_passes.ensures
 
 -- what the whole search finds, by what is left of it
@@ -84,20 +87,22 @@ found c v e =
     let a = c.args in
     let p : ℕ = c.ticks_of-perday.result in
     ap (found_by p a.interval a.tick) (sym (c.loop-n.invariant.2 ∙ e))
-    ∙ ap (λ (x : ℕ). found_by x a.interval a.tick (first_tick a.freq a.interval a.tick a.clock.now x 1)) (perday-is c)
-    ∙ next_from a.freq a.interval a.tick a.clock.now (rw (← perday-is c) (omega arith))
+    ∙ ap (λ (x : ℕ). found_by x a.interval a.tick (first_tick a.freq a.interval a.tick a.clock.now x 1)) (perday_is c)
+    ∙ next_from a.freq a.interval a.tick a.clock.now (rw (← perday_is c) (omega arith))
 
 pub returns-then-tick_passes : goal.returns-then-tick_passes
 returns-then-tick_passes c =
+    let here = goal.at.returns-then-tick_passes c in
     let l = c in
     let n : ℕ = l.loop-n.n + 1 in
-    ap (λ (t : ℕ). Found.At record { periods = n; tick = t }) (stepped (goal.at.returns-then-tick_passes c).After-tick_after-at)
-    ∙ found (goal.at.returns-then-tick_passes c).At-loop-n (To n) (hit _ _ _ _ _ _ (omega arith) (tested (goal.at.returns-then-tick_passes c).After-tick_passes ∙ c.if-tick_passes.true))
+    ap (λ (t : ℕ). Found.At record { periods = n; tick = t }) (stepped here.After-tick_after-at)
+    ∙ found here.At-loop-n (To n) (hit _ _ _ _ _ _ (omega arith) (tested here.After-tick_passes ∙ c.if-tick_passes.true))
 
 pub loop-n-preserved : goal.loop-n-preserved
 loop-n-preserved c =
+    let here = goal.at.loop-n-preserved c in
     let l = c in
-    (omega arith, stepped (goal.at.loop-n-preserved c).After-tick_after-at, l.loop-n.invariant.2 ∙ miss _ _ _ _ _ _ (omega arith) (tested (goal.at.loop-n-preserved c).After-tick_passes ∙ c.if-tick_passes.false))
+    (omega arith, stepped here.After-tick_after-at, l.loop-n.invariant.2 ∙ miss _ _ _ _ _ _ (omega arith) (tested here.After-tick_passes ∙ c.if-tick_passes.false))
 
 pub returns : goal.returns
 returns c = found (goal.at.returns c).At-loop-n NoTick (done _ _ _ _ _ _ (omega arith))

@@ -13,7 +13,7 @@ use Rattle.times.specs.TimeSets.{value_at, time_at}
 use Rattle.times.proofs.iterinfo.time_at.Goals as goal
 
 -- the time from its parts, as the code works them out
-put-together : (freq : Frequency) (begins : ℕ) (counts : Counts) (lists : List ℕ) (t : ℕ) (number past place hour minute second : ℕ)
+put_together : (freq : Frequency) (begins : ℕ) (counts : Counts) (lists : List ℕ) (t : ℕ) (number past place hour minute second : ℕ)
     → number ≡ frequency_number freq
     → past ≡ t / counts.seconds
     → place ≡ past / counts.minutes
@@ -22,7 +22,7 @@ put-together : (freq : Frequency) (begins : ℕ) (counts : Counts) (lists : List
     → second ≡ value_at (ltb number 6) lists 84 60 (t - past * counts.seconds) (begins % 60)
     → hour * 3600 + (minute * 60 + second) ≡ time_at freq begins counts lists t
 unfolding time_at
-put-together freq begins counts lists t number past place hour minute second n p q h m s =
+put_together freq begins counts lists t number past place hour minute second n p q h m s =
     rw (h, m, s, q, p, n, mod-eq-sub-div-mul t counts.seconds, mod-eq-sub-div-mul (t / counts.seconds) counts.minutes)
 
 pub overflow_mul-minuteplace : goal.overflow_mul-minuteplace
@@ -47,7 +47,7 @@ pub returns : goal.returns
 returns c =
     let q = c in
     let a = q.args in
-    put-together a.freq a.begins a.counts a.lists.now a.t _ _ _ _ _ _
+    put_together a.freq a.begins a.counts a.lists.now a.t _ _ _ _ _ _
     q.frequency_number-number.ensures
     q.quotient-past.ensures
     q.quotient-place.ensures

@@ -39,11 +39,12 @@ week_passes-requires c =
 
 pub loop-week-preserved-then-not-week_passes : goal.loop-week-preserved-then-not-week_passes
 loop-week-preserved-then-not-week_passes c =
+    let here = goal.at.loop-week-preserved-then-not-week_passes c in
     let l = c in
     let b = l in
     let a = b.args in (
       omega arith,
-      skip_week a.wkst a.weeknos.now a.year b.weeks_around-weeks.result b.weeks_around-weeks.ensures (has (goal.at.loop-week-preserved-then-not-week_passes c).Else-not-has_mask) l.loop-week.week l.loop-week.mask
+      skip_week a.wkst a.weeknos.now a.year b.weeks_around-weeks.result b.weeks_around-weeks.ensures (has here.Else-not-has_mask) l.loop-week.week l.loop-week.mask
           (sym c.week_passes.ensures ∙ not-true _ c.if-not-week_passes.true-raw) l.loop-week.invariant.1,
     )
 
@@ -54,12 +55,13 @@ mark-requires c =
 
 pub loop-week-preserved : goal.loop-week-preserved
 loop-week-preserved c =
+    let here = goal.at.loop-week-preserved c in
     let e = c in
     let l = e in
     let b = l in
     let a = b.args in (
       omega arith,
-      mark_week a.wkst a.weeknos.now a.year b.weeks_around-weeks.result b.weeks_around-weeks.ensures (has (goal.at.loop-week-preserved c).Else-not-has_mask) l.loop-week.week _ _
+      mark_week a.wkst a.weeknos.now a.year b.weeks_around-weeks.result b.weeks_around-weeks.ensures (has here.Else-not-has_mask) l.loop-week.week _ _
           l.loop-week.mask _ (sym e.week_passes.ensures ∙ not-false _ e.if-not-week_passes.false-raw) l.loop-week.invariant.1 c.less-from.ensures
           (omega arith)
           c.mark.ensures,
