@@ -1,8 +1,6 @@
 -- `puts::letters::put_weekday` meets its contract.
 -- Assumes nothing.
-use mathlib.Core.Path.{sym, ap}
-use Rattle.symbols.specs.Languages.{word_at}
-use Rattle.recur.specs.Grammar.{weekday_names}
+use mathlib.Core.Path.{sym}
 use Rattle.puts.proofs.PutLaws.{put_none, put_of, room_of}
 use Rattle.puts.proofs.WordLaws.{weekday, no_weekday}
 use Rattle.puts.proofs.letters.put_weekday.Goals as goal
