@@ -1,15 +1,14 @@
 -- What is answered, and what stands in the buffer then.
 -- Assumes nothing.
 use Prim.Native.Nat.{ℕ, ◌+◌, ◌≤◌, ◌<◌}
-use mathlib.Core.Path.{◌≡◌, refl, sym, ap, ◌∙◌}
+use mathlib.Core.Path.{◌≡◌, sym, ap, ◌∙◌}
 use mathlib.Core.Bool.{Bool}
-use mathlib.Core.List.{List, [], ◌∷◌, ◌++◌}
+use mathlib.Core.List.{List, [], ◌++◌}
 use native.Mathlib.Omega.{arith}
 use lib.ListN.{length}
 use lib.Dec.{leb}
 use lib.Seq.{sets}
 use borrow.Author.Tests.{ltb-false, le-leb, lt-leb}
-use Rattle.calendar.specs.Calendar.{if◌then◌else◌}
 use Rattle.rule.specs.declared.rrule.Refusal.{Refusal}
 use Rattle.rule.specs.declared.rrule.Verdict.{Verdict}
 use Rattle.rule.specs.declared.rrule.Until.{Until}
@@ -19,7 +18,7 @@ use Rattle.rule.specs.Refusals.{until_out, verdict}
 use Rattle.rule.proofs.RefusalLaws.{none_given}
 use Rattle.recur.specs.declared.Written.{Written}
 use Rattle.recur.specs.Writing.{text_of, fitted, left_by, written_of, text_left}
-use Rattle.recur.specs.Claims.{CountInRange, UntilInRange, Writable}
+use Rattle.recur.specs.Claims.{CountInRange, UntilInRange}
 use Rattle.recur.proofs.WrittenTexts.{written_fits}
 use Rattle.puts.specs.Put.{Put, Room}
 use Rattle.puts.proofs.PutLaws.{sets_out}
