@@ -1,15 +1,15 @@
 -- The entries of BYDAY, as they are put.
 -- Assumes nothing.
 use Prim.Native.Nat.{ℕ, zero, suc, ◌+◌, ◌-◌, ◌<◌, ◌≤◌}
-use mathlib.Core.Path.{◌≡◌, refl, sym, ap, ◌∙◌}
+use mathlib.Core.Path.{◌≡◌, refl, sym}
 use mathlib.Core.List.{List, [], ◌∷◌, ◌++◌}
 use native.Mathlib.Omega.{arith}
 use native.Mathlib.Numerals.{add-one}
 use lib.ListN.{length, get_or, drop, drop_of_length-le}
 use lib.Seq.{drop-cons}
 use lib.IntN.{ℤ, pos, negsuc}
-use Rattle.rule.specs.Entries.{shift, Moved}
-use Rattle.symbols.specs.Languages.{Both, both, word_at}
+use Rattle.rule.specs.Entries.{Moved}
+use Rattle.symbols.specs.Languages.{both, word_at}
 use Rattle.recur.specs.Grammar.{names, weekday_names}
 use Rattle.recur.specs.Writing.{signed_text, nth_text, day_text, weekday_number, paired, day_part}
 use Rattle.recur.specs.Pieces.{parts_behind, entries_behind}

@@ -2,9 +2,9 @@
 -- Assumes nothing.
 use Rattle.std.specs.Prelude.{if◌then◌else◌}
 use Prim.Native.Nat.{ℕ, ◌+◌, ◌≤◌, ◌<◌}
-use mathlib.Core.Path.{◌≡◌, refl, sym, ap, ◌∙◌}
+use mathlib.Core.Path.{◌≡◌, sym, ap, ◌∙◌}
 use mathlib.Core.Bool.{Bool}
-use mathlib.Core.List.{List, [], ◌∷◌, ◌++◌}
+use mathlib.Core.List.{List, [], ◌++◌}
 use native.Mathlib.Omega.{arith}
 use lib.ListN.{length}
 use lib.Dec.{leb}
@@ -19,7 +19,7 @@ use Rattle.rule.specs.Refusals.{until_out, verdict}
 use Rattle.rule.proofs.RefusalLaws.{none_given}
 use Rattle.recur.specs.declared.Written.{Written}
 use Rattle.recur.specs.Writing.{text_of, fitted, left_by, written_of, text_left}
-use Rattle.recur.specs.Claims.{CountInRange, UntilInRange, Writable}
+use Rattle.recur.specs.Claims.{CountInRange, UntilInRange}
 use Rattle.recur.proofs.WrittenTexts.{written_fits}
 use Rattle.puts.specs.Put.{Put, Room}
 use Rattle.puts.proofs.PutLaws.{sets_out}

@@ -1,6 +1,6 @@
 -- What the types of a rule's numbers tell of them.
 -- Assumes nothing.
-use Prim.Native.Nat.{ℕ, suc, ◌≤◌}
+use Prim.Native.Nat.{suc, ◌≤◌}
 use mathlib.Core.List.{[], ◌∷◌}
 use native.Mathlib.Omega.{arith}
 use denote.Laws.{Is}

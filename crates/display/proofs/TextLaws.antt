@@ -1,13 +1,10 @@
 -- The whole text, from what isn't a list, the lists of days and those of times.
 -- Assumes nothing.
 use Prim.Native.Nat.{ℕ}
-use mathlib.Core.Path.{◌≡◌, refl, sym, ap, ◌∙◌}
-use mathlib.Core.List.{List, [], ◌∷◌, ◌++◌, append_assoc}
-use lib.IntN.{ℤ}
+use mathlib.Core.Path.{◌≡◌, refl, sym, ◌∙◌}
+use mathlib.Core.List.{List, ◌++◌, append_assoc}
 use Rattle.rule.specs.Raw.{RawLists, Raw}
-use Rattle.symbols.specs.Languages.{word_at}
-use Rattle.recur.specs.Grammar.{names}
-use Rattle.recur.specs.Writing.{list_part, paired, day_part, list_parts, text_of}
+use Rattle.recur.specs.Writing.{paired, day_part, list_parts, text_of}
 use Rattle.recur.specs.Pieces.{parts_behind}
 use Rattle.recur.proofs.WrittenPieces.{text_lists, text_pieces}
 use Rattle.display.specs.Parts.{head_bytes, day_bytes, time_bytes}

@@ -3,7 +3,7 @@
 use Rattle.std.specs.Prelude.{if◌then◌else◌}
 use Prim.Native.Nat.{ℕ, zero, suc, ◌≤◌, ◌<◌}
 use native.Mathlib.Omega.{arith}
-use mathlib.Core.Path.{◌≡◌, refl, sym, ap, ◌∙◌, fun_ext, subst, subst⁻¹}
+use mathlib.Core.Path.{◌≡◌, refl, sym, ap, ◌∙◌, fun_ext, subst⁻¹}
 use mathlib.Core.Bool.{Bool, true, false, ◌&&◌}
 use mathlib.Core.List.{List, [], ◌∷◌}
 use lib.ListN.{length, get_or, drop}
@@ -11,8 +11,8 @@ use lib.Dec.{leb, ltb}
 use borrow.Author.Tests.{leb-true, leb-false}
 use Rattle.symbols.specs.Takes.{Took}
 use Rattle.symbols.proofs.Cuts.{and_both}
-use Rattle.recur.specs.Grammar.{none_used, Part, kind_of, value_in, rule_by, rule_of, is_there}
-use Rattle.recur.specs.Reading.{parts_at, Read, rule, refused, is_none, is_whole, judged, longest, read_of}
+use Rattle.recur.specs.Grammar.{none_used, Part, kind_of, rule_by, rule_of}
+use Rattle.recur.specs.Reading.{parts_at, rule, refused, is_none, is_whole, longest, read_of}
 use Rattle.recur.specs.Places.{nowhere, places_at, value_from}
 use Rattle.recur.proofs.Parted.{rest_is}
 use Rattle.recur.proofs.Flags.{left_all}

@@ -1,7 +1,7 @@
 -- The scan's step: a name, the value behind it, and where it goes on.
 -- Assumes nothing.
 use Rattle.std.specs.Prelude.{if◌then◌else◌}
-use Prim.Native.Nat.{ℕ, zero, suc, ◌+◌, ◌-◌, ◌≤◌, ◌<◌}
+use Prim.Native.Nat.{ℕ, zero, suc, ◌+◌, ◌≤◌, ◌<◌}
 use native.Mathlib.Omega.{arith}
 use mathlib.Core.Path.{◌≡◌, refl, sym, ap, ◌∙◌, subst}
 use mathlib.Core.Bool.{Bool, true, false, ◌&&◌}
@@ -20,7 +20,7 @@ use Rattle.recur.specs.Shown.{stopped, shown}
 use Rattle.recur.proofs.Parted.{parts_off, parts_last}
 use Rattle.recur.proofs.Scanned.{part_stopped, placed_whole, placed_stopped, places_off, places_last}
 use Rattle.recur.proofs.Named.{name_in, NameRead, name_read}
-use Rattle.recur.proofs.Onward.{part_in, places_next, value_behind, part_read, part_read_lem, goes_whole, next_in, parts_onward, places_onward}
+use Rattle.recur.proofs.Onward.{part_in, places_next, value_behind, part_read, part_read_lem, next_in, parts_onward, places_onward}
 use Rattle.parser.specs.declared.rule_content_line.Scanned.{Scanned}
 use Rattle.parser.specs.Scans.{stop_at, scan_from}
 

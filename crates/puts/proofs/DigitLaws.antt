@@ -1,13 +1,13 @@
 -- Numbers in digits, by their last digits.
 -- Assumes nothing.
 use Prim.Native.Nat.{ℕ, zero, suc, ◌+◌, ◌-◌, ◌*◌, ◌/◌, ◌%◌, ◌≤◌, ◌<◌}
-use mathlib.Core.Path.{◌≡◌, refl, sym, ap, ◌∙◌}
+use mathlib.Core.Path.{◌≡◌, sym, ap, ◌∙◌}
 use mathlib.Core.Logic.{⊎_elim}
 use mathlib.Core.List.{List, [], ◌∷◌, ◌++◌}
 use native.Mathlib.Omega.{arith}
 use borrow.Author.Tests.{lt-ltb, le-ltb}
 use lib.IntN.{ℤ, pos, negsuc}
-use Rattle.rule.specs.Entries.{shift, Moved}
+use Rattle.rule.specs.Entries.{Moved}
 use Rattle.rule.proofs.Order.{below_or}
 use Rattle.symbols.specs.Counts.{ten_to}
 use Rattle.calendar.specs.Calendar.{date_of}

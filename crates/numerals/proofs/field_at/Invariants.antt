@@ -1,15 +1,10 @@
 -- `numerals::field_at` meets its contract: what is read from the first place on is what is still to be read, with what is read.
 -- Assumes nothing.
 use Prim.Native.Nat.{◌-◌}
-use native.Mathlib.Omega.{arith}
-use mathlib.Core.Path.{◌≡◌, sym, ◌∙◌}
-use mathlib.Core.Bool.{false}
-use lib.ListN.{length, drop}
-use Rattle.symbols.specs.Readers.{may_take}
+use lib.ListN.{length}
 use Rattle.symbols.specs.Counts.{field}
-use Rattle.numerals.specs.Bytes.{passes}
-use Rattle.numerals.proofs.DigitLaws.{Taken, taken, Reads, at_first, one_more, at_last}
-use Rattle.numerals.proofs.CountLaws.{InField, field_first, field_more, field_whole}
+use Rattle.numerals.proofs.DigitLaws.{Reads}
+use Rattle.numerals.proofs.CountLaws.{InField}
 use Rattle.numerals.proofs.field_at.Given as goal
 
 abbrev pub invariant-loop-value : goal.invariant-loop-value

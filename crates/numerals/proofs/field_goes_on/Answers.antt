@@ -37,14 +37,14 @@ small : (c : After-with_digit) → (let u = c.ten_to-unit.result in (c.with_digi
 small c =
     let a = c.args in
     let u = c.ten_to-unit.result in
-    let d = digit c.before.before.before in
+    let d = digit_there c.args.text.now c.args.place (sym c.is_digit_at.ensures ∙ not-false _ c.if-not-is_digit_at.false-raw) in
     let least : 1 ≤ u = omega (arith, ten_some (a.wide - (a.count + 1)), c.ten_to-unit.ensures) in
     let most : u ≤ 1000 = omega (arith, ten_few (a.wide - (a.count + 1)) (omega arith), c.ten_to-unit.ensures) in
     let number : c.with_digit.result ≤ 99999 = omega (arith, d.most, c.with_digit.ensures) in
     (mul-le-mul number most, least, most)
 
 pub overflow_mul-lowest : goal.overflow_mul-lowest
-overflow_mul-lowest c = omega (arith, (small c).0)
+overflow_mul-lowest c = omega (arith, (small (goal.at.overflow_mul-lowest c).After-with_digit).0)
 
 pub returns-then-high-lowest : goal.returns-then-high-lowest
 returns-then-high-lowest c =

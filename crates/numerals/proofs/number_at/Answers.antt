@@ -1,14 +1,14 @@
 -- `numerals::number_at` meets its contract: what is read from the first place on is what is still to be read, with what is read.
 -- Assumes nothing.
-use Prim.Native.Nat.{◌-◌, ◌≤◌}
+use Prim.Native.Nat.{◌-◌}
 use native.Mathlib.Omega.{arith}
 use mathlib.Core.Path.{◌≡◌, refl, sym, ◌∙◌}
 use mathlib.Core.Bool.{false}
-use lib.ListN.{length, drop}
+use lib.ListN.{drop}
 use Rattle.symbols.specs.Readers.{may_take}
 use Rattle.symbols.specs.Counts.{up_to}
 use Rattle.numerals.specs.Bytes.{passes}
-use Rattle.numerals.proofs.DigitLaws.{Taken, taken, Reads, at_first, one_more, at_last}
+use Rattle.numerals.proofs.DigitLaws.{Taken, taken, at_first, one_more, at_last}
 use Rattle.numerals.proofs.CountLaws.{number_high}
 use Rattle.numerals.proofs.number_at.Goals as goal
 use Rattle.numerals.proofs.number_at.Goals.{After-loop-value, In-loop-value}

@@ -4,12 +4,12 @@ use Prim.Native.Nat.{◌-◌}
 use native.Mathlib.Omega.{arith}
 use mathlib.Core.Path.{◌≡◌, refl, sym, ◌∙◌}
 use mathlib.Core.Bool.{false}
-use lib.ListN.{length, drop}
+use lib.ListN.{drop}
 use Rattle.symbols.specs.Readers.{may_take}
 use Rattle.symbols.specs.Counts.{three}
 use Rattle.numerals.specs.Bytes.{passes}
-use Rattle.numerals.proofs.DigitLaws.{Taken, taken, Reads, at_first, one_more, at_last}
-use Rattle.numerals.proofs.CountLaws.{Few, few_first, few_small, few_more, shown_small}
+use Rattle.numerals.proofs.DigitLaws.{Taken, taken, at_first, one_more, at_last}
+use Rattle.numerals.proofs.CountLaws.{few_first, few_small, few_more, shown_small}
 use Rattle.numerals.proofs.three_at.Goals as goal
 use Rattle.numerals.proofs.three_at.Goals.{After-loop-value, In-loop-value}
 

@@ -1,12 +1,9 @@
 -- `puts::bytes::put_word` meets its contract: what is left of the word completes the text.
 -- Assumes nothing.
-use Rattle.std.proofs.Common.{rules}
-use Prim.Native.Nat.{ℕ, ◌+◌, ◌-◌, ◌≤◌}
-use mathlib.Core.Path.{◌≡◌, refl, sym, ap, ◌∙◌}
-use native.Mathlib.Omega.{arith}
-use lib.ListN.{length, drop, length-set}
+use Prim.Native.Nat.{◌+◌, ◌-◌, ◌≤◌}
+use mathlib.Core.Path.{◌≡◌}
+use lib.ListN.{length, drop}
 use lib.Seq.{sets}
-use Rattle.puts.proofs.PutLaws.{sets_out, word_next, word_done}
 use Rattle.puts.proofs.bytes.put_word.Given as goal
 
 abbrev pub invariant-loop-i : goal.invariant-loop-i

@@ -62,4 +62,4 @@ returns-in-6 c =
     put_of (sym (frequency put.in-6.is)) put.put_word-in-6.ensures
 
 pub returns-in_default : goal.returns-in_default
-returns-in_default c = put_of (sym (no_frequency c.in_default.rest)) (put_none _ _)
+returns-in_default c = put_of (sym (no_frequency c.in_default.in_default-own.rest)) (put_none _ _)

@@ -1,8 +1,6 @@
 -- `puts::letters::put_weekday` meets its contract.
 -- Assumes nothing.
-use mathlib.Core.Path.{sym, ap}
-use Rattle.symbols.specs.Languages.{word_at}
-use Rattle.recur.specs.Grammar.{weekday_names}
+use mathlib.Core.Path.{sym}
 use Rattle.puts.proofs.PutLaws.{put_none, put_of, room_of}
 use Rattle.puts.proofs.WordLaws.{weekday, no_weekday}
 use Rattle.puts.proofs.letters.put_weekday.Goals as goal
@@ -64,4 +62,4 @@ returns-in-6 c =
     put_of (sym (weekday put.in-6.is)) put.put_pair-in-6.ensures
 
 pub returns-in_default : goal.returns-in_default
-returns-in_default c = put_of (sym (no_weekday c.in_default.rest)) (put_none _ _)
+returns-in_default c = put_of (sym (no_weekday c.in_default.in_default-own.rest)) (put_none _ _)

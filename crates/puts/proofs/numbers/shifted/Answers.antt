@@ -6,9 +6,9 @@ use native.Mathlib.Omega.{arith}
 use lib.IntN.{ℤ, pos, ◌+ℤ◌}
 use lib.Signed.{mag}
 use mir.Syntax.{w16, w32}
-use mir.Val.{SFits, to_z, of_z}
+use mir.Val.{to_z, of_z}
 use mir.ValLaws.{to_z-of_z}
-use Rattle.rule.specs.Entries.{shift, Moved}
+use Rattle.rule.specs.Entries.{shift}
 use Rattle.rule.proofs.EntryLaws.{moved_up, shift_high}
 use Rattle.puts.proofs.numbers.shifted.Goals as goal
 use Rattle.puts.proofs.numbers.shifted.Goals.{Start}
