@@ -368,8 +368,8 @@ nought_numbered : numbers nought ≡ map (λ (j : Judged). j.number) nought
 unfolding numbers nought
 nought_numbered = refl
 
-unfoldable count_and_until_lem : List Judged
-count_and_until_lem =
+unfoldable count_and_until : List Judged
+count_and_until =
     gives 0 3 1704067200 (COUNT 1) ∷
     gives 0 3 1704067200 (UNTIL 1704067200) ∷
     gives 11 3 1704067200 (COUNT 1 ++ UNTIL 1704067200) ∷
@@ -377,8 +377,8 @@ count_and_until_lem =
     gives 11 3 1704067200 (COUNT 4294967295 ++ UNTIL 253402300799) ∷
     []
 
-count_and_until_numbered : numbers count_and_until_lem ≡ map (λ (j : Judged). j.number) count_and_until_lem
-unfolding numbers count_and_until_lem
+count_and_until_numbered : numbers count_and_until ≡ map (λ (j : Judged). j.number) count_and_until
+unfolding numbers count_and_until
 count_and_until_numbered = refl
 
 unfoldable misplaced_weekno : List Judged
