@@ -188,7 +188,7 @@ def fillings():
                 edit = Edit(FILLING, f"{field} = takes ({test})", f"{field} = takes ({new})", [NOT])
                 yield Version(f"{freq}{months}: {name} {told}", edit, "Filling", freq.lower() + months, freq)
     for name, (old, new, case) in OTHER_VALUES.items():
-        yield Version(f"another {name} filled in", Edit(FILLING, old, new, []), "Filling", case)
+        yield Version(f"another {name} filled in", Edit(FILLING, old, new, [PLUS]), "Filling", case)
     test = FILLS["month"][0]
     old = f"bymonth = takes ({test}) r.bymonth (slot_of months (pos date.month));"
     new = f"bymonth = if {test} then mark r.bymonth (slot_of months (pos date.month)) else r.bymonth;"
