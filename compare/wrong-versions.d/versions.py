@@ -1,4 +1,5 @@
 """The wrong versions: each changes a definition in specs/, and names the case of crates/grid that has to refuse it."""
+import re
 from collections import namedtuple
 
 # A place in specs/ whose text is there once, and what stands there instead; `uses` are names that the new text needs.
@@ -307,7 +308,7 @@ def positions_alone():
     for fields in (("bymonth",), ("bymonthday",), ("byyearday",), ("byweekno",), ("bydayn", "bydayw"), ("byhour",), ("byminute",), ("bysecond",)):
         new = whole
         for field in fields:
-            new = new.replace(f"lacks l.{field}", "true")
+            new = re.sub(rf"lacks l\.{field}\b", "true", new)
         yield Version(f"9 beside {fields[0]}", Edit(REFUSALS, whole, new, []), "Refusals", "positions")
 
 
