@@ -4,7 +4,7 @@
 ghost use Rattle.std.specs.Prelude.{◌≡◌, slice_index};
 ghost use Rattle.rule.specs.declared.rrule.Verdict.{Verdict};
 
-use rule::rrule::{Checked, Count, Frequency, Rule, Until, Verdict};
+use rule::rrule::{Checked, Frequency, Rule, Verdict};
 use validator::validate_rrule;
 use words::rows;
 
@@ -74,19 +74,19 @@ fn list<'a, 'b>(which: usize, row: &'b [usize], values: &'a [i16]) -> &'a [i16] 
     &values[from..end]
 }
 
-fn count_in(row: &[usize]) -> Count {
+fn count_in(row: &[usize]) -> Option<u32> {
     if rows::number_at(row, rows::HAS_COUNT) == 1 {
-        Count::Times((rows::number_at(row, rows::COUNT) % 4294967296) as u32)
+        Some((rows::number_at(row, rows::COUNT) % 4294967296) as u32)
     } else {
-        Count::Absent
+        None
     }
 }
 
-fn until_in(row: &[usize]) -> Until {
+fn until_in(row: &[usize]) -> Option<u64> {
     if rows::number_at(row, rows::HAS_UNTIL) == 1 {
-        Until::At(rows::number_at(row, rows::UNTIL) as u64)
+        Some(rows::number_at(row, rows::UNTIL) as u64)
     } else {
-        Until::Absent
+        None
     }
 }
 

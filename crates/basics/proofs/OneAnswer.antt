@@ -39,7 +39,7 @@ count_and_until_has_one κs a x y e f = one_answer
 pub is_misplaced_has_one : Determines 0 is-misplaced-kinds.ps is-misplaced-kinds.r is-misplaced.Post
 is_misplaced_has_one κs a x y e f = one_answer
 
-pub fresh_has_one : Determines 0 fresh-kinds.ps fresh-kinds.r fresh.Post
+pub fresh_has_one : Determines 1 fresh-kinds.ps fresh-kinds.r fresh.Post
 fresh_has_one κs a x y e f = one_answer
 
 pub frequency_number_has_one : Determines 0 frequency-number-kinds.ps frequency-number-kinds.r frequency-number.Post
@@ -67,7 +67,7 @@ count_and_until_asks_nothing κs a = nothing_asked
 pub is_misplaced_asks_nothing : AsksNothing 0 is-misplaced-kinds.ps is-misplaced.requires
 is_misplaced_asks_nothing κs a = nothing_asked
 
-pub fresh_asks_nothing : AsksNothing 0 fresh-kinds.ps fresh.requires
+pub fresh_asks_nothing : AsksNothing 1 fresh-kinds.ps fresh.requires
 fresh_asks_nothing κs a = nothing_asked
 
 pub frequency_number_asks_nothing : AsksNothing 0 frequency-number-kinds.ps frequency-number.requires

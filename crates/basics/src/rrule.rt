@@ -1,73 +1,65 @@
-// The number of a frequency and of a refusal, the rows of the table that a rule and its record are asked alike, and the fresh cursor of a rule.
+// The numbers of a frequency and of a refusal, the rows of the table that a rule and its record are asked alike, and the fresh cursor of a rule.
 ghost use Rattle.std.specs.Prelude.{◌≡◌};
 ghost use Rattle.machine.specs.Given.{reaches};
 ghost use Rattle.rule.specs.Run.{count_of, start_in, fresh_of};
-ghost use Rattle.rule.specs.Refusals.{refusal_number, nought, has_count, count_and_until, misplaces};
-ghost use Rattle.rule.specs.Filling.{frequency_number};
+ghost use Rattle.rule.specs.Refusals.{refusal_number, nought, until_out, count_and_until, misplaces};
+ghost use Rattle.rule.specs.Filling.{frequency_number, frequency};
 
+use calendar::utils::LAST_INSTANT;
 use machine::{Cause, Cursor, State};
-use rule::rrule::{Count, Frequency, Refusal, Rule, Until};
+use rule::rrule::{Frequency, Refusal, Rule};
 
 // The number of a refusal in document 01's table.
 pub fn refusal_number(refusal: Refusal) -> u8
     ensures { result ≡ refusal_number refusal }
 {
-    match refusal {
-        Refusal::FrequencyAbove => 1,
-        Refusal::WeekStartAbove => 2,
-        Refusal::StartOut => 3,
-        Refusal::UntilOut => 4,
-        Refusal::EntryOut => 5,
-        Refusal::NotRising => 6,
-        Refusal::MixedDays => 7,
-        Refusal::NthMisplaced => 8,
-        Refusal::PositionsAlone => 9,
-        Refusal::Nought => 10,
-        Refusal::CountAndUntil => 11,
-        Refusal::ListMisplaced => 12,
-    }
+    refusal as u8
 }
 
 // The number of a frequency in document 01.
 pub fn frequency_number(freq: Frequency) -> u8
     ensures { result ≡ frequency_number freq }
 {
-    match freq {
-        Frequency::Yearly => 0,
-        Frequency::Monthly => 1,
-        Frequency::Weekly => 2,
-        Frequency::Daily => 3,
-        Frequency::Hourly => 4,
-        Frequency::Minutely => 5,
-        Frequency::Secondly => 6,
+    freq as u8
+}
+
+// The frequency with a number; one above 6 is refused before it is asked for.
+pub fn frequency_of(number: u8) -> Frequency
+    ensures { result ≡ frequency number }
+{
+    match number {
+        0 => Frequency::Yearly,
+        1 => Frequency::Monthly,
+        2 => Frequency::Weekly,
+        3 => Frequency::Daily,
+        4 => Frequency::Hourly,
+        5 => Frequency::Minutely,
+        _ => Frequency::Secondly,
+    }
+}
+
+// Whether UNTIL is out of range.
+pub fn is_until_out(until: Option<u64>) -> bool
+    ensures { result ≡ until_out until }
+{
+    match until {
+        None => false,
+        Some(t) => LAST_INSTANT < t,
     }
 }
 
 // Whether INTERVAL or COUNT is 0.
-pub fn has_nought(interval: u16, count: Count) -> bool
+pub fn has_nought(interval: u16, count: Option<u32>) -> bool
     ensures { result ≡ nought interval count }
 {
     (interval == 0) | is_nought(count)
 }
 
-// Whether COUNT is present.
-fn has_count(count: Count) -> bool
-    ensures { result ≡ has_count count }
-{
-    match count {
-        Count::Absent => false,
-        Count::Times(_) => true,
-    }
-}
-
 // Whether COUNT and UNTIL are both present.
-pub fn count_and_until(count: Count, until: Until) -> bool
+pub fn count_and_until(count: Option<u32>, until: Option<u64>) -> bool
     ensures { result ≡ count_and_until count until }
 {
-    match until {
-        Until::Absent => false,
-        Until::At(_) => has_count(count),
-    }
+    until.is_some() & count.is_some()
 }
 
 // Whether a frequency has a list that it can't have: by its number, and which lists are present.
@@ -80,11 +72,10 @@ pub fn is_misplaced(freq: u8, weeknos: bool, yeardays: bool, monthdays: bool) ->
 }
 
 // A fresh cursor: ended by Count if COUNT is 0, else by Interval if INTERVAL is 0, else running.
-pub fn fresh(rule: Rule) -> Cursor
-    ensures { result ≡ fresh_of rule }
+pub fn fresh(rule: &Rule) -> Cursor
+    ensures { result ≡ fresh_of rule.now }
 {
-    let count = rule.count;
-    if is_nought(count) {
+    if is_nought(rule.count) {
         return cursor_in(State::Ended(Cause::Count));
     }
     if rule.interval == 0 {
@@ -94,13 +85,10 @@ pub fn fresh(rule: Rule) -> Cursor
 }
 
 // Whether COUNT is 0.
-fn is_nought(count: Count) -> bool
+fn is_nought(count: Option<u32>) -> bool
     ensures { result ≡ reaches (count_of count) 0 }
 {
-    match count {
-        Count::Absent => false,
-        Count::Times(n) => 0 == n,
-    }
+    count == Some(0)
 }
 
 fn cursor_in(state: State) -> Cursor

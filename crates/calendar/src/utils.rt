@@ -2,8 +2,17 @@
 ghost use Rattle.std.specs.Prelude.{◌≡◌, ◌-◌};
 ghost use Rattle.calendar.specs.Calendar.{leap, year_length, new_year, year_of, weekday};
 
+// The day after 9999.
+pub const RANGE_END: u64 = 3652059;
+
+// The seconds from 0001-01-01 to 1970-01-01.
+pub const EPOCH: u64 = 62135596800;
+
+// 9999-12-31T23:59:59Z, as an instant.
+pub const LAST_INSTANT: u64 = 253402300799;
+
 // A date: year, month and day of the month count from 1; length is the month's.
-#[derive(Clone, Copy)]
+#[derive(Clone, Copy, PartialEq, Eq)]
 pub struct Date {
     pub year: u32,
     pub month: u8,
@@ -29,15 +38,8 @@ pub fn get_year_len(year: u32) -> u16
 pub fn days_before_year(year: u32) -> u64
     ensures { result ≡ new_year year }
 {
-    let past = one_less(year) as u64;
+    let past = year.saturating_sub(1) as u64;
     365 * past + past / 4 - past / 100 + past / 400
-}
-
-// The number before a number, and 0 of 0.
-fn one_less(x: u32) -> u32
-    ensures { result ≡ x - 1 }
-{
-    if x == 0 { 0 } else { x - 1 }
 }
 
 // The weekday of 1 January, where Monday is 0. Over whole weeks a year has one day and every fourth year two: 5/4 a year. A hundred years have
@@ -45,7 +47,7 @@ fn one_less(x: u32) -> u32
 pub fn weekday_of_new_year(year: u32) -> u8
     ensures { result ≡ weekday (new_year year) }
 {
-    let past = one_less(year);
+    let past = year.saturating_sub(1);
     ((5 * (past % 100) / 4 + 21 * (past / 100) / 4) % 7) as u8
 }
 

@@ -1,5 +1,6 @@
 -- The definitions in words, held to one instance each.
 -- Assumes nothing.
+use Rattle.std.specs.Prelude.{Some, None, Ok}
 use Prim.Native.Nat.{ℕ, ◌≤◌, ◌<◌}
 use native.Mathlib.Omega.{arith}
 use mathlib.Core.Path.{◌≡◌, refl}
@@ -8,10 +9,8 @@ use mathlib.Core.List.{[], ◌∷◌}
 use lib.IntN.{pos, negsuc}
 use Rattle.calendar.specs.Calendar.{leap, new_year, days_before_month}
 use Rattle.machine.specs.Given.{Move.NoTick, Move.Range}
-use Rattle.rule.specs.declared.rrule.Count.{Count}
-use Rattle.rule.specs.declared.rrule.Until.{Until}
 use Rattle.rule.specs.declared.rrule.Rule.{Rule}
-use Rattle.rule.specs.declared.rrule.Verdict.{Verdict}
+use Rattle.rule.specs.Refusals.{Verdict}
 use Rattle.rule.specs.Raw.{Raw, raw, raw_lists}
 use Rattle.rule.specs.Filling.{given, fill, checked, Yields}
 use Rattle.rule.specs.Periods.{period, in_range}
@@ -23,7 +22,7 @@ use Rattle.rule.specs.Moves.{Lands, Moves, Moves.range, Moves.no_tick, day_in}
 -- DAILY;BYHOUR=0,12;BYSETPOS=-1;UNTIL=2024-01-01 12:00 from 2024-01-01
 unfoldable daily_until_noon : Rule
 unfolding given fill
-daily_until_noon = fill (given (raw 3 1 Count.Absent (Until.At 1704110400) 0 1704067200 (raw_lists [] [] [] [] [] [] (pos 0 ∷ pos 12 ∷ []) [] [] (negsuc 0 ∷ []))))
+daily_until_noon = fill (given (raw 3 1 None (Some 1704110400) 0 1704067200 (raw_lists [] [] [] [] [] [] (pos 0 ∷ pos 12 ∷ []) [] [] (negsuc 0 ∷ []))))
 
 -- noon of 1 January satisfies it: candidate number 1 of 2, chosen by -1
 noon_satisfies : Satisfies daily_until_noon 1704110400
@@ -48,7 +47,7 @@ is_instant r t s = s.instant
 from_its_start : (r : Rule) (t : ℕ) → Satisfies r t → r.start ≤ t
 from_its_start r t s = s.from_start
 
-to_its_until : (u t : ℕ) → NotAfter (Until.At u) t → t ≤ u
+to_its_until : (u t : ℕ) → NotAfter (Some u) t → t ≤ u
 to_its_until u t h = h
 
 -- the first second after a period is no candidate of it
@@ -56,7 +55,7 @@ no_candidate_at_end : (r : Rule) (k : ℕ) → Candidate r k (period r k).ends �
 no_candidate_at_end r k c = let h : (period r k).ends < (period r k).ends = c.before_end in absurd (omega arith)
 
 -- a record that is yielded comes of an accepted check
-yields_accepted : (w : Raw) (r : Rule) → Yields w r → (checked w).verdict ≡ Verdict.Accepted
+yields_accepted : (w : Raw) (r : Rule) → Yields w r → (checked w).verdict ≡ Ok tt
 yields_accepted w r y = y.accepted
 
 -- from a day that doesn't pass a move lands on a later date; where it may land there is no NoTick
@@ -69,7 +68,7 @@ no_tick_none r k k' (no_tick h none) l = none k' l
 -- DAILY from 253402214400: period 1 begins after 9999
 unfoldable daily_at_the_end : Rule
 unfolding given fill
-daily_at_the_end = fill (given (raw 3 1 Count.Absent Until.Absent 0 253402214400 (raw_lists [] [] [] [] [] [] [] [] [] [])))
+daily_at_the_end = fill (given (raw 3 1 None None 0 253402214400 (raw_lists [] [] [] [] [] [] [] [] [] [])))
 
 ends_by_range : Moves daily_at_the_end 0 Range
 unfolding daily_at_the_end in_range leap new_year days_before_month

@@ -1,13 +1,13 @@
 -- How a case is played: a rule, calls of it, and what they answer, whole.
 -- Assumes nothing.
-use Rattle.std.specs.Prelude.{ℕ, zero, suc, ◌+◌, List, [], ◌∷◌}
+use Rattle.std.specs.Prelude.{ℕ, zero, suc, ◌+◌, List, [], ◌∷◌, Ok, Err}
 use Rattle.machine.specs.declared.State.{State}
 use Rattle.machine.specs.declared.Stop.{Stop}
 use Rattle.machine.specs.declared.Cursor.{Cursor}
 use Rattle.machine.specs.Calls.{Answered}
 use Rattle.rule.specs.declared.rrule.Refusal.{Refusal}
-use Rattle.rule.specs.declared.rrule.Verdict.{Verdict}
-use Rattle.rule.specs.declared.rrule.Checked.{Checked}
+use Rattle.rule.specs.Refusals.{Verdict}
+use Rattle.rule.specs.Filling.{Checked}
 use Rattle.rule.specs.declared.rrule.Rule.{Rule}
 use Rattle.rule.specs.Raw.{Raw}
 use Rattle.rule.specs.Filling.{given, fill, checked}
@@ -42,8 +42,8 @@ calls r c [] = []
 calls r c (x ∷ xs) = let a : Answered ℕ = run_of r c (slots x.room 100) x.budget in a ∷ calls r a.answer.cursor xs
 
 abbrev pub judged : Verdict → (Rule → Cursor) → Rule → List Call → Outcome
-judged (Verdict.Refused n) from r xs = refused n
-judged Verdict.Accepted from r xs = answers (calls r (from r) xs)
+judged (Err n) from r xs = refused n
+judged (Ok tt) from r xs = answers (calls r (from r) xs)
 
 -- the calls in turn, from a fresh cursor; from this one
 unfoldable pub play : Raw → List Call → Outcome

@@ -1,6 +1,6 @@
 -- What is answered, and what stands in the buffer then.
 -- Assumes nothing.
-use Rattle.std.specs.Prelude.{if◌then◌else◌}
+use Rattle.std.specs.Prelude.{if◌then◌else◌, Option, Some, None, Ok, Err}
 use Prim.Native.Nat.{ℕ, ◌+◌, ◌≤◌, ◌<◌}
 use mathlib.Core.Path.{◌≡◌, sym, ap, ◌∙◌}
 use mathlib.Core.Bool.{Bool}
@@ -11,8 +11,7 @@ use lib.Dec.{leb}
 use lib.Seq.{sets}
 use borrow.Author.Tests.{ltb-false, le-leb, lt-leb}
 use Rattle.rule.specs.declared.rrule.Refusal.{Refusal}
-use Rattle.rule.specs.declared.rrule.Verdict.{Verdict}
-use Rattle.rule.specs.declared.rrule.Until.{Until}
+use Rattle.rule.specs.Refusals.{Verdict}
 use Rattle.rule.specs.Instants.{last_instant}
 use Rattle.rule.specs.Raw.{Raw}
 use Rattle.rule.specs.Refusals.{until_out, verdict}
@@ -45,11 +44,11 @@ module _ (xs buffer part : List ℕ) (k : ℕ) (p : Put [] 0 xs part k) where
       record { answer = rw (t, e); stands = rw t (q.stands ∙ ap (λ (l : List ℕ). sets l 0 xs) untouched) }
 
 -- the answers of the whole writer
-written_refused : (w : Raw) (n : Refusal) (size : ℕ) → verdict w ≡ Verdict.Refused n → written_of w size ≡ Written.Refused n
+written_refused : (w : Raw) (n : Refusal) (size : ℕ) → verdict w ≡ Err n → written_of w size ≡ Written.Refused n
 unfolding written_of
 written_refused w n size e = rw (e, written_of)
 
-written_accepted : (w : Raw) (size : ℕ) → verdict w ≡ Verdict.Accepted → written_of w size ≡ fitted (length (text_of w)) size
+written_accepted : (w : Raw) (size : ℕ) → verdict w ≡ Ok tt → written_of w size ≡ fitted (length (text_of w)) size
 unfolding written_of
 written_accepted w size e = rw (e, written_of)
 
@@ -57,13 +56,13 @@ left_is : (w : Raw) (buffer : List ℕ) (told : Written) → written_of w (lengt
 unfolding text_left
 left_is w buffer told e = ap (λ (x : Written). left_by x (text_of w) buffer) (sym e)
 
-pub told_refused : (w : Raw) (n : Refusal) (buffer : List ℕ) → verdict w ≡ Verdict.Refused n
+pub told_refused : (w : Raw) (n : Refusal) (buffer : List ℕ) → verdict w ≡ Err n
     → (Written.Refused n ≡ written_of w (length buffer)) × (buffer ≡ text_left w buffer)
 told_refused w n buffer e =
     let r : written_of w (length buffer) ≡ Written.Refused n = written_refused w n (length buffer) e in
     (sym r, left_is w buffer (Written.Refused n) r)
 
-pub told_accepted : (w : Raw) (buffer left : List ℕ) (told : Written) → verdict w ≡ Verdict.Accepted → FittedIn (text_of w) buffer left told
+pub told_accepted : (w : Raw) (buffer left : List ℕ) (told : Written) → verdict w ≡ Ok tt → FittedIn (text_of w) buffer left told
     → (told ≡ written_of w (length buffer)) × (left ≡ text_left w buffer)
 told_accepted w buffer left told e f =
     let size : ℕ = length buffer in
@@ -71,14 +70,14 @@ told_accepted w buffer left told e f =
     (f.answer ∙ sym r, f.stands ∙ left_is w buffer (fitted (length (text_of w)) size) r)
 
 -- an accepted rule: its UNTIL is in range, and there is room for its text
-pub until_in_range : (w : Raw) → verdict w ≡ Verdict.Accepted → UntilInRange w.until
+pub until_in_range : (w : Raw) → verdict w ≡ Ok tt → UntilInRange w.until
 until_in_range w e = in_range_lem w.until ((none_given w).0 e Refusal.UntilOut)
   where
-    in_range_lem : (u : Until) → until_out u ≡ Bool.false → UntilInRange u
-    in_range_lem Until.Absent h = tt
-    in_range_lem (Until.At t) h = ltb-false last_instant t h
+    in_range_lem : (u : Option ℕ) → until_out u ≡ Bool.false → UntilInRange u
+    in_range_lem None h = tt
+    in_range_lem (Some t) h = ltb-false last_instant t h
 
-pub room : (w : Raw) → verdict w ≡ Verdict.Accepted → w.start ≡ 0 → w.interval ≤ 65535 → CountInRange w.count → Room 0 (text_of w)
+pub room : (w : Raw) → verdict w ≡ Ok tt → w.start ≡ 0 → w.interval ≤ 65535 → CountInRange w.count → Room 0 (text_of w)
 room w a s i c =
     let h : length (text_of w) ≤ 13117 = written_fits w (record { accepted = a; start = s; interval = i; count = c }) in
     record { fits = omega arith }

@@ -1,5 +1,6 @@
 -- The parts of a text, as they are put.
 -- Assumes nothing.
+use Rattle.std.specs.Prelude.{Option, Some, None}
 use Prim.Native.Nat.{ℕ, ◌+◌, ◌<◌, ◌≤◌}
 use mathlib.Core.Path.{◌≡◌, refl, sym, ap, subst, ◌∙◌}
 use mathlib.Core.Bool.{Bool, true, false}
@@ -11,8 +12,6 @@ use lib.Seq.{drop-cons}
 use lib.IntN.{ℤ, pos}
 use lib.Dec.{eqb}
 use borrow.Author.Tests.{eq-eqb, ne_eqb}
-use Rattle.rule.specs.declared.rrule.Count.{Count}
-use Rattle.rule.specs.declared.rrule.Until.{Until}
 use Rattle.rule.specs.Instants.{last_instant}
 use Rattle.symbols.specs.Languages.{both, word_at}
 use Rattle.recur.specs.Grammar.{names, frequencies, weekday_names, number, Part, kind_of}
@@ -49,21 +48,21 @@ pub interval_gone : (n : ℕ) → n ≡ 1 → [] ≡ parts_behind (unless (eqb n
 interval_gone n h = gone (both 1 (number n)) (eq-eqb n 1 h)
 
 -- COUNT
-pub count_here : (k : Count) (n : ℕ) → k ≡ Count.Times n → 59 ∷ (word_at names 2 ++ decimal n) ≡ parts_behind (count_part k)
-count_here k n e = one_part 2 n ∙ ap (λ (x : Count). parts_behind (count_part x)) (sym e)
+pub count_here : (k : Option ℕ) (n : ℕ) → k ≡ Some n → 59 ∷ (word_at names 2 ++ decimal n) ≡ parts_behind (count_part k)
+count_here k n e = one_part 2 n ∙ ap (λ (x : Option ℕ). parts_behind (count_part x)) (sym e)
 
-pub count_gone : (k : Count) → k ≡ Count.Absent → [] ≡ parts_behind (count_part k)
-count_gone k e = no_part ∙ ap (λ (x : Count). parts_behind (count_part x)) (sym e)
+pub count_gone : (k : Option ℕ) → k ≡ None → [] ≡ parts_behind (count_part k)
+count_gone k e = no_part ∙ ap (λ (x : Option ℕ). parts_behind (count_part x)) (sym e)
 
 -- UNTIL
-pub until_here : (u : Until) (t : ℕ) → u ≡ Until.At t → 59 ∷ (word_at names 3 ++ moment_text t) ≡ parts_behind (until_part u)
-until_here u t e = one_part 3 t ∙ ap (λ (x : Until). parts_behind (until_part x)) (sym e)
+pub until_here : (u : Option ℕ) (t : ℕ) → u ≡ Some t → 59 ∷ (word_at names 3 ++ moment_text t) ≡ parts_behind (until_part u)
+until_here u t e = one_part 3 t ∙ ap (λ (x : Option ℕ). parts_behind (until_part x)) (sym e)
 
-pub until_gone : (u : Until) → u ≡ Until.Absent → [] ≡ parts_behind (until_part u)
-until_gone u e = no_part ∙ ap (λ (x : Until). parts_behind (until_part x)) (sym e)
+pub until_gone : (u : Option ℕ) → u ≡ None → [] ≡ parts_behind (until_part u)
+until_gone u e = no_part ∙ ap (λ (x : Option ℕ). parts_behind (until_part x)) (sym e)
 
-pub until_low : (u : Until) (t : ℕ) → u ≡ Until.At t → UntilInRange u → t ≤ last_instant
-until_low u t e h = subst (λ (x : Until). UntilInRange x) e h
+pub until_low : (u : Option ℕ) (t : ℕ) → u ≡ Some t → UntilInRange u → t ≤ last_instant
+until_low u t e h = subst (λ (x : Option ℕ). UntilInRange x) e h
 
 -- WKST
 pub wkst_here : (w : ℕ) → (w ≡ 0 → ⊥) → 59 ∷ (word_at names 4 ++ word_at weekday_names w) ≡ parts_behind (unless (eqb w 0) (both 4 (number w)))

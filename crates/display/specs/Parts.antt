@@ -1,8 +1,6 @@
 -- A rule's text by its pieces, as they are put one behind the other.
 -- Assumes nothing.
-use Rattle.std.specs.Prelude.{ℕ, ◌≡◌, List, [], ◌∷◌, ◌++◌, length, eqb, ℤ}
-use Rattle.rule.specs.declared.rrule.Count.{Count}
-use Rattle.rule.specs.declared.rrule.Until.{Until}
+use Rattle.std.specs.Prelude.{ℕ, ◌≡◌, List, [], ◌∷◌, ◌++◌, length, eqb, ℤ, Option}
 use Rattle.symbols.specs.Languages.{both, word_at}
 use Rattle.recur.specs.declared.Written.{Written}
 use Rattle.recur.specs.Grammar.{names, number}
@@ -15,7 +13,7 @@ list_bytes name [] = []
 list_bytes name (v ∷ vs) = name ++ (signed_text v ++ entries_behind signed_text vs)
 
 -- FREQ, and what isn't a list
-unfoldable pub head_bytes : (freq interval : ℕ) → Count → Until → (wkst : ℕ) → List ℕ
+unfoldable pub head_bytes : (freq interval : ℕ) → Option ℕ → Option ℕ → (wkst : ℕ) → List ℕ
 head_bytes freq interval count until wkst =
     part_text (both 0 (number freq))
     ++ (parts_behind (unless (eqb interval 1) (both 1 (number interval)))

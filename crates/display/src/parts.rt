@@ -12,7 +12,6 @@ use puts::bytes::{put_byte, put_word};
 use puts::instants::put_moment;
 use puts::letters::{put_frequency, put_weekday};
 use puts::numbers::{put_number, put_signed, shifted};
-use rule::rrule::{Count, Until};
 
 // FREQ.
 pub(crate) fn put_freq(text: &mut [u8], place: usize, freq: u8) -> usize
@@ -36,13 +35,13 @@ pub(crate) fn put_interval(text: &mut [u8], place: usize, interval: u16) -> usiz
 }
 
 // COUNT, if there is one.
-pub(crate) fn put_count(text: &mut [u8], place: usize, count: Count) -> usize
+pub(crate) fn put_count(text: &mut [u8], place: usize, count: Option<u32>) -> usize
     requires { Room place (parts_behind (count_part count)) }
     ensures { Put text.old place (parts_behind (count_part count)) text.new result }
 {
     match count {
-        Count::Absent => place,
-        Count::Times(times) => {
+        None => place,
+        Some(times) => {
             let next = put_word(text, place, b";COUNT=");
             put_number(text, next, times)
         }
@@ -50,13 +49,13 @@ pub(crate) fn put_count(text: &mut [u8], place: usize, count: Count) -> usize
 }
 
 // UNTIL, if there is one.
-pub(crate) fn put_until(text: &mut [u8], place: usize, until: Until) -> usize
+pub(crate) fn put_until(text: &mut [u8], place: usize, until: Option<u64>) -> usize
     requires { UntilInRange until × Room place (parts_behind (until_part until)) }
     ensures { Put text.old place (parts_behind (until_part until)) text.new result }
 {
     match until {
-        Until::Absent => place,
-        Until::At(instant) => {
+        None => place,
+        Some(instant) => {
             let next = put_word(text, place, b";UNTIL=");
             put_moment(text, next, instant)
         }

@@ -8,11 +8,11 @@ ghost use Rattle.display.specs.Parts.{head_bytes, day_bytes, time_bytes, FittedI
 
 use crate::parts::{put_count, put_days, put_freq, put_interval, put_list, put_until, put_wkst};
 use recur::Written;
-use rule::rrule::{Count, Until, Verdict};
+use rule::rrule::Verdict;
 use validator::validate_rrule::verdict_of;
 
 // FREQ, and what isn't a list.
-fn put_head(freq: u8, interval: u16, count: Count, until: Until, wkst: u8, text: &mut [u8]) -> usize
+fn put_head(freq: u8, interval: u16, count: Option<u32>, until: Option<u64>, wkst: u8, text: &mut [u8]) -> usize
     requires { UntilInRange until × Room 0 (head_bytes freq interval count until wkst) }
     ensures { Put text.old 0 (head_bytes freq interval count until wkst) text.new result }
 {
@@ -68,8 +68,8 @@ fn put_time_lists(
 fn put_rule(
     freq: u8,
     interval: u16,
-    count: Count,
-    until: Until,
+    count: Option<u32>,
+    until: Option<u64>,
     wkst: u8,
     bymonth: &[i16],
     bymonthday: &[i16],
@@ -102,8 +102,8 @@ fn put_rule(
 fn write_fitting(
     freq: u8,
     interval: u16,
-    count: Count,
-    until: Until,
+    count: Option<u32>,
+    until: Option<u64>,
     wkst: u8,
     bymonth: &[i16],
     bymonthday: &[i16],
@@ -157,8 +157,8 @@ fn write_fitting(
 pub fn write(
     freq: u8,
     interval: u16,
-    count: Count,
-    until: Until,
+    count: Option<u32>,
+    until: Option<u64>,
     wkst: u8,
     bymonth: &[i16],
     bymonthday: &[i16],

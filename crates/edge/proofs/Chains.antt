@@ -1,6 +1,6 @@
 -- What runs from C keep to, and what they list one after the other: the machine's calls, as C is shown them.
 -- Assumes nothing.
-use Rattle.std.specs.Prelude.{if◌then◌else◌}
+use Rattle.std.specs.Prelude.{if◌then◌else◌, Some, Ok, Err}
 use Prim.Native.Nat.{ℕ, ◌≤◌, ◌<◌}
 use mathlib.Core.Path.{◌≡◌, refl, sym, ap, ◌∙◌, subst}
 use mathlib.Core.Logic.{◌⊎◌, inl, inr, ⊎_elim}
@@ -23,8 +23,7 @@ use Rattle.machine.specs.Compute.{outcome, run}
 use Rattle.machine.specs.Calls.{refuse, call, answered, chain, Each}
 use Rattle.machine.specs.Promises.{Reason, KeepsTo}
 use Rattle.machine.proofs.Theorems.{ended_returns, run_keeps, accepted, chain_lists}
-use Rattle.rule.specs.declared.rrule.Count.{Count}
-use Rattle.rule.specs.declared.rrule.Verdict.{Verdict}
+use Rattle.rule.specs.Refusals.{Verdict}
 use Rattle.rule.specs.declared.rrule.Rule.{Rule}
 use Rattle.rule.specs.Raw.{Raw}
 use Rattle.rule.specs.Refusals.{verdict}
@@ -200,28 +199,28 @@ other_state (State.Ended Cause.NoTick) h = (Cause.NoTick, refl, λ e. let z : �
 other_state (State.Ended Cause.Range) h = (Cause.Range, refl, λ e. let z : ◌≡◌ {A = ℕ} 5 1 = ap cause_number e in omega arith)
 
 -- an accepted check has left the record
-check_left : (v : Verdict) (r : Rule) (bytes : List ℕ) → (said_of v r bytes).number ≡ 0 → (v ≡ Verdict.Accepted) × ((said_of v r bytes).bytes ≡ encode_record r)
-check_left (Verdict.Refused n) r bytes e = absurd (omega (arith, (refusal_range n).0))
-check_left Verdict.Accepted r bytes e = go (eqb (length bytes) record_length) e
+check_left : (v : Verdict) (r : Rule) (bytes : List ℕ) → (said_of v r bytes).number ≡ 0 → (v ≡ Ok tt) × ((said_of v r bytes).bytes ≡ encode_record r)
+check_left (Err n) r bytes e = absurd (omega (arith, (refusal_range n).0))
+check_left (Ok tt) r bytes e = go (eqb (length bytes) record_length) e
   where
     go : (t : Bool) → (if t then said 0 (encode_record r) else said 20 bytes).number ≡ 0
-        → (Verdict.Accepted ≡ Verdict.Accepted) × ((if t then said 0 (encode_record r) else said 20 bytes).bytes ≡ encode_record r)
+        → (Ok tt ≡ Ok tt) × ((if t then said 0 (encode_record r) else said 20 bytes).bytes ≡ encode_record r)
     go true e = (refl, refl)
     go false e = absurd (omega arith)
 
-answers_sized : (v : Verdict) (q : Rule) → (answers v q).verdict ≡ Verdict.Accepted → Sized q → Sized (answers v q).rule
+answers_sized : (v : Verdict) (q : Rule) → (answers v q).verdict ≡ Ok tt → Sized q → Sized (answers v q).rule
 unfolding answers
-answers_sized Verdict.Accepted q e z = z
-answers_sized (Verdict.Refused n) q e z = absurd (let y : ◌≡◌ {A = ℕ} 0 1 = cc in omega arith)
+answers_sized (Ok tt) q e z = z
+answers_sized (Err n) q e z = absurd (let y : ◌≡◌ {A = ℕ} 0 1 = cc in omega arith)
 
-checked_sized : (w : Raw) → (checked w).verdict ≡ Verdict.Accepted → Sized (checked w).rule
+checked_sized : (w : Raw) → (checked w).verdict ≡ Ok tt → Sized (checked w).rule
 unfolding checked
 checked_sized w e = answers_sized (verdict w) (fill (given w)) e (fill_sized (given w) (given_sized w))
 
-checked_good : (w : Raw) → (checked w).verdict ≡ Verdict.Accepted → yielded (checked w).rule ≡ true
+checked_good : (w : Raw) → (checked w).verdict ≡ Ok tt → yielded (checked w).rule ≡ true
 checked_good w e = (good_records (checked w).rule).1 (w, record { accepted = e; record_is = refl })
 
-module _ (w : Raw) (ok : (checked w).verdict ≡ Verdict.Accepted) (calls : List (Call ℕ)) where
+module _ (w : Raw) (ok : (checked w).verdict ≡ Ok tt) (calls : List (Call ℕ)) where
   abbrev r : Rule
   r = (checked w).rule
 
@@ -263,7 +262,7 @@ module _ (w : Raw) (ok : (checked w).verdict ≡ Verdict.Accepted) (calls : List
         only = λ u h. l.only u (subst (λ (ys : List ℕ). u ∈ ys) listed_is h);
         all = λ u v h s le. subst (λ (ys : List ℕ). u ∈ ys) (sym listed_is) (l.all u v (subst (λ (ys : List ℕ). v ∈ ys) listed_is h) s le);
         counted = subst (λ (ys : List ℕ). AtMost (count_of r.count) (length ys)) (sym listed_is) l.counted;
-        by_count = λ h. subst (λ (ys : List ℕ). r.count ≡ Count.Times (length ys)) (sym listed_is)
+        by_count = λ h. subst (λ (ys : List ℕ). r.count ≡ Some (length ys)) (sym listed_is)
             (l.by_count (state_of_cause (told_by r calls).cursor.state Cause.Count (sym (state_is (omega arith)) ∙ h)));
         none_left = λ h u s.
             let o = other_state (told_by r calls).cursor.state (subst (λ (k : ℕ). 1 < k) (state_is (omega arith)) h) in

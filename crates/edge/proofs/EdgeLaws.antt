@@ -1,5 +1,6 @@
 -- What the calls from C answer, case by case.
 -- Assumes nothing.
+use Rattle.std.specs.Prelude.{Option, Ok, Err}
 use Prim.Native.Nat.{ℕ}
 use mathlib.Core.Path.{◌≡◌, refl, sym, ap, ◌∙◌}
 use mathlib.Core.Bool.{Bool, true, false, ◌&&◌}
@@ -10,11 +11,9 @@ use borrow.Author.Tests.{eqb-true, eq-eqb, ne_eqb}
 use Rattle.machine.specs.declared.Cursor.{Cursor}
 use Rattle.machine.specs.declared.Answer.{Answer}
 use Rattle.machine.specs.Calls.{beside}
-use Rattle.rule.specs.declared.rrule.Count.{Count}
-use Rattle.rule.specs.declared.rrule.Until.{Until}
 use Rattle.rule.specs.declared.rrule.Refusal.{Refusal}
-use Rattle.rule.specs.declared.rrule.Verdict.{Verdict}
-use Rattle.rule.specs.declared.rrule.Checked.{Checked}
+use Rattle.rule.specs.Refusals.{Verdict}
+use Rattle.rule.specs.Filling.{Checked}
 use Rattle.rule.specs.declared.rrule.Rule.{Rule}
 use Rattle.rule.specs.Raw.{RawLists, raw}
 use Rattle.rule.specs.Refusals.{refusal_number}
@@ -56,20 +55,20 @@ unfolding decode_cursor
 cursor_held bytes c e f = rw (e, f)
 
 -- the check
-module _ (freq interval : ℕ) (count count' : Count) (until until' : Until) (wkst start : ℕ) (lists : RawLists) (v : Checked) (bytes : List ℕ)
+module _ (freq interval : ℕ) (count count' : Option ℕ) (until until' : Option ℕ) (wkst start : ℕ) (lists : RawLists) (v : Checked) (bytes : List ℕ)
     (ec : count ≡ count') (eu : until ≡ until') (ev : v ≡ checked (raw freq interval count until wkst start lists)) where
-  pub check_refused : (refusal : Refusal) (n : ℕ) → v.verdict ≡ Verdict.Refused refusal → n ≡ refusal_number refusal
+  pub check_refused : (refusal : Refusal) (n : ℕ) → v.verdict ≡ Err refusal → n ≡ refusal_number refusal
       → said n bytes ≡ check_says (raw freq interval count' until' wkst start lists) bytes
   unfolding check_says
   check_refused refusal n e f =
       rw (← ec, ← eu, ← ev) (ap (λ (k : ℕ). said k bytes) f ∙ ap (λ (a : Verdict). said_of a v.rule bytes) (sym e))
 
-  pub check_length : (x : List ℕ) → v.verdict ≡ Verdict.Accepted → (length bytes ≡ 2564 → ⊥) → x ≡ bytes
+  pub check_length : (x : List ℕ) → v.verdict ≡ Ok tt → (length bytes ≡ 2564 → ⊥) → x ≡ bytes
       → said 20 x ≡ check_says (raw freq interval count' until' wkst start lists) bytes
   unfolding check_says
   check_length x e h f = rw (← ec, ← eu, ← ev, e, ne_eqb (length bytes) 2564 h) (ap (λ (y : List ℕ). said 20 y) f)
 
-  pub check_accepted : (x : List ℕ) → v.verdict ≡ Verdict.Accepted → length bytes ≡ 2564 → x ≡ encode_record v.rule
+  pub check_accepted : (x : List ℕ) → v.verdict ≡ Ok tt → length bytes ≡ 2564 → x ≡ encode_record v.rule
       → said 0 x ≡ check_says (raw freq interval count' until' wkst start lists) bytes
   unfolding check_says
   check_accepted x e l f = rw (← ec, ← eu, ← ev, e, eq-eqb (length bytes) 2564 l) (ap (λ (y : List ℕ). said 0 y) f)

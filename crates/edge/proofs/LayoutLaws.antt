@@ -1,5 +1,6 @@
 -- A record and a cursor that are written and read part by part.
 -- Assumes nothing.
+use Rattle.std.specs.Prelude.{Option}
 use Prim.Native.Nat.{ℕ, ◌+◌}
 use mathlib.Core.Path.{◌≡◌, refl, sym, ap, ◌∙◌}
 use mathlib.Core.Bool.{Bool, false, ◌&&◌}
@@ -12,8 +13,6 @@ use borrow.Author.Tests.{eq-eqb, ne_eqb}
 use Rattle.machine.specs.declared.State.{State}
 use Rattle.machine.specs.declared.Cursor.{Cursor}
 use Rattle.rule.specs.declared.rrule.Frequency.{Frequency}
-use Rattle.rule.specs.declared.rrule.Count.{Count}
-use Rattle.rule.specs.declared.rrule.Until.{Until}
 use Rattle.rule.specs.declared.rrule.Rule.{Rule}
 use Rattle.rule.specs.Filling.{frequency_number, frequency}
 use Rattle.edge.specs.Bytes.{two_at, four_at, eight_at, two, four, eight, are_flags, flags_at, flag_byte, flag_bytes}
@@ -30,11 +29,11 @@ length_flag_bytes : (s : List Bool) (n : ℕ) → length s ≡ n → length (fla
 length_flag_bytes s n e = length-map s flag_byte ∙ e
 
 -- the 26 bytes behind the version
-pub length_head : (freq : Frequency) (interval : ℕ) (count : Count) (until : Until) (wkst start : ℕ) → length (head_bytes freq interval count until wkst start) ≡ 26
+pub length_head : (freq : Frequency) (interval : ℕ) (count : Option ℕ) (until : Option ℕ) (wkst start : ℕ) → length (head_bytes freq interval count until wkst start) ≡ 26
 unfolding head_bytes two four eight
 length_head freq interval count until wkst start = refl
 
-pub head_put : (freq : Frequency) (interval : ℕ) (count : Count) (until : Until) (wkst start f t n u m : ℕ) (l x1 x2 x3 x4 x5 x6 x7 x8 : List ℕ)
+pub head_put : (freq : Frequency) (interval : ℕ) (count : Option ℕ) (until : Option ℕ) (wkst start f t n u m : ℕ) (l x1 x2 x3 x4 x5 x6 x7 x8 : List ℕ)
     → f ≡ frequency_number freq → t ≡ count_tag count → n ≡ count_number count → u ≡ until_tag until → m ≡ until_number until
     → x1 ≡ set l 1 f → x2 ≡ sets x1 2 (two interval) → x3 ≡ set x2 4 t → x4 ≡ sets x3 5 (four n) → x5 ≡ set x4 9 u
     → x6 ≡ sets x5 10 (eight m) → x7 ≡ set x6 18 wkst → x8 ≡ sets x7 19 (eight start) → x8 ≡ sets l 1 (head_bytes freq interval count until wkst start)
@@ -110,7 +109,7 @@ module _ (r : Rule) where
 
 module _ (bytes : List ℕ) where
   -- the record that is read
-  pub record_read : (freq : Frequency) (interval : ℕ) (count : Count) (until : Until) (wkst start n m : ℕ)
+  pub record_read : (freq : Frequency) (interval : ℕ) (count : Option ℕ) (until : Option ℕ) (wkst start n m : ℕ)
       (s1 s2 s3 s4 s5 s6 s7 s8 s9 : List Bool) → freq ≡ frequency (get_or bytes 1 0) → interval ≡ two_at bytes 2 → n ≡ four_at bytes 5
       → count ≡ count_from (get_or bytes 4 0) n → m ≡ eight_at bytes 10 → until ≡ until_from (get_or bytes 9 0) m → wkst ≡ get_or bytes 18 0
       → start ≡ eight_at bytes 19 → s1 ≡ flags_at bytes 27 12 → s2 ≡ flags_at bytes 39 62 → s3 ≡ flags_at bytes 101 732 → s4 ≡ flags_at bytes 833 106

@@ -1,5 +1,6 @@
 -- A record and a cursor that are written are read back.
 -- Assumes nothing.
+use Rattle.std.specs.Prelude.{Option, Some, None}
 use Prim.Native.Nat.{ℕ, suc, ◌+◌, ◌*◌, ◌/◌, ◌%◌}
 use mathlib.Core.Path.{◌≡◌, refl, sym, ap, ◌∙◌}
 use mathlib.Core.Bool.{Bool, true, ◌&&◌}
@@ -10,8 +11,6 @@ use Rattle.machine.specs.declared.Cause.{Cause}
 use Rattle.machine.specs.declared.State.{State}
 use Rattle.machine.specs.declared.Cursor.{Cursor}
 use Rattle.rule.specs.declared.rrule.Frequency.{Frequency}
-use Rattle.rule.specs.declared.rrule.Count.{Count}
-use Rattle.rule.specs.declared.rrule.Until.{Until}
 use Rattle.rule.specs.declared.rrule.Rule.{Rule}
 use Rattle.rule.specs.Filling.{frequency_number, frequency}
 use Rattle.rule.specs.Records.{Sized}
@@ -29,7 +28,7 @@ four_back : (n : ℕ) → n % 65536 % 256 + 256 * (n % 65536 / 256) + 65536 * (n
 four_back n = (λ i. two_read (n % 65536) i + 65536 * two_read (n / 65536) i) ∙ four_read n
 
 -- what the first bytes of a record are, whatever stands behind
-module _ (freq : Frequency) (interval : ℕ) (count : Count) (until : Until) (wkst start : ℕ) (rest : List ℕ) where
+module _ (freq : Frequency) (interval : ℕ) (count : Option ℕ) (until : Option ℕ) (wkst start : ℕ) (rest : List ℕ) where
   version_byte : get_or ((record_version ∷ head_bytes freq interval count until wkst start) ++ rest) 0 0 ≡ record_version
   unfolding head_bytes
   version_byte = refl
@@ -90,21 +89,21 @@ frequency_known Frequency.Hourly = refl
 frequency_known Frequency.Minutely = refl
 frequency_known Frequency.Secondly = refl
 
-count_again : (c : Count) → count_from (count_tag c) (count_number c) ≡ c
-count_again Count.Absent = refl
-count_again (Count.Times n) = refl
+count_again : (c : Option ℕ) → count_from (count_tag c) (count_number c) ≡ c
+count_again None = refl
+count_again (Some n) = refl
 
-until_again : (u : Until) → until_from (until_tag u) (until_number u) ≡ u
-until_again Until.Absent = refl
-until_again (Until.At t) = refl
+until_again : (u : Option ℕ) → until_from (until_tag u) (until_number u) ≡ u
+until_again None = refl
+until_again (Some t) = refl
 
-count_tagged : (c : Count) → is_tagged (count_tag c) (count_number c) ≡ true
-count_tagged Count.Absent = refl
-count_tagged (Count.Times n) = refl
+count_tagged : (c : Option ℕ) → is_tagged (count_tag c) (count_number c) ≡ true
+count_tagged None = refl
+count_tagged (Some n) = refl
 
-until_tagged : (u : Until) → is_tagged (until_tag u) (until_number u) ≡ true
-until_tagged Until.Absent = refl
-until_tagged (Until.At t) = refl
+until_tagged : (u : Option ℕ) → is_tagged (until_tag u) (until_number u) ≡ true
+until_tagged None = refl
+until_tagged (Some t) = refl
 
 -- the next part goes to those that stand before
 pub record Split (e before rest : List ℕ) (i : ℕ) : Type 0 where

@@ -1,6 +1,6 @@
 -- Which numbers the calls say, and that a refused call leaves what was lent as it was.
 -- Assumes nothing.
-use Rattle.std.specs.Prelude.{if◌then◌else◌}
+use Rattle.std.specs.Prelude.{if◌then◌else◌, Ok, Err}
 use Prim.Native.Nat.{ℕ, ◌≤◌, ◌<◌}
 use mathlib.Core.Path.{◌≡◌, refl, sym, ap}
 use mathlib.Core.Logic.{◌⊎◌, inl, inr, ⊎_elim}
@@ -18,7 +18,7 @@ use Rattle.machine.specs.Faults.{fault_number}
 use Rattle.machine.specs.Calls.{Answered}
 use Rattle.machine.proofs.Theorems.{refused_as_given}
 use Rattle.rule.specs.declared.rrule.Refusal.{Refusal}
-use Rattle.rule.specs.declared.rrule.Verdict.{Verdict}
+use Rattle.rule.specs.Refusals.{Verdict}
 use Rattle.rule.specs.declared.rrule.Rule.{Rule}
 use Rattle.rule.specs.Refusals.{refusal_number}
 use Rattle.rule.specs.Filling.{checked}
@@ -53,8 +53,8 @@ refusal_range Refusal.ListMisplaced = (omega arith, omega arith)
 
 check_cases : (P : Said → Type 0) (v : Verdict) (r : Rule) (bytes : List ℕ) → ((n : Refusal) → P (said (refusal_number n) bytes)) → P (said 20 bytes)
     → P (said 0 (encode_record r)) → P (said_of v r bytes)
-check_cases P (Verdict.Refused n) r bytes a b c = a n
-check_cases P Verdict.Accepted r bytes a b c = go (eqb (length bytes) record_length)
+check_cases P (Err n) r bytes a b c = a n
+check_cases P (Ok tt) r bytes a b c = go (eqb (length bytes) record_length)
   where
     go : (t : Bool) → P (if t then said 0 (encode_record r) else said 20 bytes)
     go true = c

@@ -1,10 +1,9 @@
 -- Runs from C one after the other: what each keeps to, and what they list together. The proofs are in proofs/Chains.
 -- Assumes nothing.
-use Rattle.std.specs.Prelude.{ℕ, ◌≤◌, ◌<◌, ◌≡◌, ◌⊎◌, List, [], ◌∷◌, ◌++◌, length, take, drop}
+use Rattle.std.specs.Prelude.{ℕ, ◌≤◌, ◌<◌, ◌≡◌, ◌⊎◌, List, [], ◌∷◌, ◌++◌, length, take, drop, Some}
 use Rattle.machine.specs.Rising.{◌∈◌}
 use Rattle.machine.specs.Given.{AtMost}
 use Rattle.machine.specs.Run.{Call}
-use Rattle.rule.specs.declared.rrule.Count.{Count}
 use Rattle.rule.specs.declared.rrule.Rule.{Rule}
 use Rattle.rule.specs.Raw.{Raw}
 use Rattle.rule.specs.Filling.{checked}
@@ -68,7 +67,7 @@ pub record ListsC (r : Rule) (t : ToldC) : Type 0 where
   pub all : (u v : ℕ) → v ∈ t.listed → Satisfies r u → u ≤ v → u ∈ t.listed
   -- never more than COUNT; cause 1 means exactly that many, and any other cause that none remains
   pub counted : AtMost (count_of r.count) (length t.listed)
-  pub by_count : t.cause ≡ 1 → r.count ≡ Count.Times (length t.listed)
+  pub by_count : t.cause ≡ 1 → r.count ≡ Some (length t.listed)
   pub none_left : 1 < t.cause → (u : ℕ) → Satisfies r u → u ∈ t.listed
 
 -- After an accepted check the fresh cursor is made, of bytes of its length.

@@ -1,10 +1,10 @@
 -- What follows from the layout and from what the calls say. The proofs are in proofs: ReadBack, OneForm and Said. What runs list is in Chains.
 -- Assumes nothing.
-use Rattle.std.specs.Prelude.{ℕ, ◌≤◌, ◌<◌, ◌≡◌, ◌⊎◌, true, List, length, get_or}
+use Rattle.std.specs.Prelude.{ℕ, ◌≤◌, ◌<◌, ◌≡◌, ◌⊎◌, true, List, length, get_or, Ok, Err}
 use Rattle.machine.specs.declared.State.{State}
 use Rattle.machine.specs.declared.Cursor.{Cursor}
 use Rattle.rule.specs.declared.rrule.Refusal.{Refusal}
-use Rattle.rule.specs.declared.rrule.Verdict.{Verdict}
+use Rattle.rule.specs.Refusals.{Verdict}
 use Rattle.rule.specs.declared.rrule.Rule.{Rule}
 use Rattle.rule.specs.Raw.{Raw}
 use Rattle.rule.specs.Refusals.{refusal_number}
@@ -42,10 +42,10 @@ RunOfWritten =
 -- The rule is judged first: one that is refused is answered with its own number, whatever bytes are lent; an accepted one with 20 where their length is
 -- another, and else with 0 and its record.
 abbrev pub CheckOfRefused : Type 0
-CheckOfRefused = (w : Raw) (bytes : List ℕ) (n : Refusal) → (checked w).verdict ≡ Verdict.Refused n → check_says w bytes ≡ said (refusal_number n) bytes
+CheckOfRefused = (w : Raw) (bytes : List ℕ) (n : Refusal) → (checked w).verdict ≡ Err n → check_says w bytes ≡ said (refusal_number n) bytes
 
 abbrev pub CheckOfAccepted : Type 0
-CheckOfAccepted = (w : Raw) (bytes : List ℕ) → (checked w).verdict ≡ Verdict.Accepted
+CheckOfAccepted = (w : Raw) (bytes : List ℕ) → (checked w).verdict ≡ Ok tt
     → (length bytes ≡ record_length → check_says w bytes ≡ said 0 (encode_record (checked w).rule))
     × ((length bytes ≡ record_length → ⊥) → check_says w bytes ≡ said 20 bytes)
 

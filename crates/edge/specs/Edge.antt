@@ -1,12 +1,12 @@
 -- What C is answered, and what it finds in the bytes that it lent. A refused call leaves every byte and every slot as it was.
 -- Assumes nothing.
-use Rattle.std.specs.Prelude.{ℕ, Bool, true, false, not, List, eqb, length, if◌then◌else◌}
+use Rattle.std.specs.Prelude.{ℕ, Bool, true, false, not, List, eqb, length, if◌then◌else◌, Ok, Err}
 use Rattle.machine.specs.declared.Stop.{Stop}
 use Rattle.machine.specs.declared.Cursor.{Cursor}
 use Rattle.machine.specs.declared.Answer.{Answer}
 use Rattle.machine.specs.Faults.{fault_number}
 use Rattle.machine.specs.Calls.{Answered}
-use Rattle.rule.specs.declared.rrule.Verdict.{Verdict}
+use Rattle.rule.specs.Refusals.{Verdict}
 use Rattle.rule.specs.declared.rrule.Rule.{Rule}
 use Rattle.rule.specs.Raw.{Raw}
 use Rattle.rule.specs.Refusals.{refusal_number}
@@ -27,8 +27,8 @@ said number bytes = record { number = number; bytes = bytes }
 -- The check: the number of the refusal; where the rule is accepted, 20 if the bytes that the record is to be written to have another length; else 0 and
 -- the record's bytes.
 abbrev pub said_of : Verdict → Rule → List ℕ → Said
-said_of (Verdict.Refused refusal) r bytes = said (refusal_number refusal) bytes
-said_of Verdict.Accepted r bytes = if eqb (length bytes) record_length then said 0 (encode_record r) else said 20 bytes
+said_of (Err refusal) r bytes = said (refusal_number refusal) bytes
+said_of (Ok tt) r bytes = if eqb (length bytes) record_length then said 0 (encode_record r) else said 20 bytes
 
 unfoldable pub check_says : Raw → List ℕ → Said
 check_says w bytes = said_of (checked w).verdict (checked w).rule bytes

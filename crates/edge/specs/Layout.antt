@@ -1,12 +1,10 @@
 -- How a record and a cursor stand in bytes, and which bytes are one. The layout is this crate's own: callers keep the bytes as they are.
 -- Assumes nothing.
-use Rattle.std.specs.Prelude.{ℕ, Bool, ◌&&◌, ◌||◌, List, ◌∷◌, ◌++◌, eqb, leb, length, get_or, drop, if◌then◌else◌}
+use Rattle.std.specs.Prelude.{ℕ, Bool, ◌&&◌, ◌||◌, List, ◌∷◌, ◌++◌, eqb, leb, length, get_or, drop, if◌then◌else◌, Option, Some, None}
 use Rattle.machine.specs.declared.Cause.{Cause}
 use Rattle.machine.specs.declared.State.{State}
 use Rattle.machine.specs.declared.Cursor.{Cursor}
 use Rattle.rule.specs.declared.rrule.Frequency.{Frequency}
-use Rattle.rule.specs.declared.rrule.Count.{Count}
-use Rattle.rule.specs.declared.rrule.Until.{Until}
 use Rattle.rule.specs.declared.rrule.Rule.{Rule}
 use Rattle.rule.specs.Filling.{frequency_number, frequency}
 use Rattle.edge.specs.Bytes.{two_at, four_at, eight_at, two, four, eight, are_flags, flags_at, flag_bytes}
@@ -17,28 +15,28 @@ pub data Decoded (A : Type 0) : Type 0 where
   holds : A → Decoded A
 
 -- COUNT and UNTIL are a tag and a number: 0 and 0 where absent, 1 and the number where given.
-abbrev pub count_tag : Count → ℕ
-count_tag Count.Absent = 0
-count_tag (Count.Times n) = 1
+abbrev pub count_tag : Option ℕ → ℕ
+count_tag None = 0
+count_tag (Some n) = 1
 
-abbrev pub count_number : Count → ℕ
-count_number Count.Absent = 0
-count_number (Count.Times n) = n
+abbrev pub count_number : Option ℕ → ℕ
+count_number None = 0
+count_number (Some n) = n
 
-abbrev pub until_tag : Until → ℕ
-until_tag Until.Absent = 0
-until_tag (Until.At t) = 1
+abbrev pub until_tag : Option ℕ → ℕ
+until_tag None = 0
+until_tag (Some t) = 1
 
-abbrev pub until_number : Until → ℕ
-until_number Until.Absent = 0
-until_number (Until.At t) = t
+abbrev pub until_number : Option ℕ → ℕ
+until_number None = 0
+until_number (Some t) = t
 
 -- read back: a tag of 0 is absent, any other is given
-abbrev pub count_from : (tag number : ℕ) → Count
-count_from tag n = if eqb tag 0 then Count.Absent else Count.Times n
+abbrev pub count_from : (tag number : ℕ) → Option ℕ
+count_from tag n = if eqb tag 0 then None else Some n
 
-abbrev pub until_from : (tag number : ℕ) → Until
-until_from tag t = if eqb tag 0 then Until.Absent else Until.At t
+abbrev pub until_from : (tag number : ℕ) → Option ℕ
+until_from tag t = if eqb tag 0 then None else Some t
 
 -- a tag and a number that are written of something: no tag but 0 and 1, and no number behind 0
 abbrev pub is_tagged : (tag number : ℕ) → Bool
@@ -53,7 +51,7 @@ record_length = 2564
 abbrev pub record_version : ℕ
 record_version = 1
 
-unfoldable pub head_bytes : Frequency → ℕ → Count → Until → (wkst start : ℕ) → List ℕ
+unfoldable pub head_bytes : Frequency → ℕ → Option ℕ → Option ℕ → (wkst start : ℕ) → List ℕ
 unfolding two four eight
 head_bytes freq interval count until wkst start =
     frequency_number freq ∷ (two interval

@@ -7,7 +7,7 @@ ghost use Rattle.fitting.specs.Fitting.{end_in, candidate_of, next_of, fits_peri
 use machine::Cursor;
 use opening::period::Period;
 use plans::plan::Shape;
-use rule::rrule::{Count, Frequency};
+use rule::rrule::Frequency;
 use stretches::counter_date::Days;
 use units::unit::unit_of;
 use walks::rrule_iter::{Bounds, candidate_at};
@@ -33,12 +33,12 @@ fn end_of(freq: Frequency, to: u64, tick: u64) -> u64
 }
 
 // Whether a number is below COUNT, where that is given.
-fn is_below(count: Count, number: u64) -> bool
+fn is_below(count: Option<u32>, number: u64) -> bool
     ensures { result ≡ below (count_of count) number }
 {
     match count {
-        Count::Absent => true,
-        Count::Times(n) => number < n as u64,
+        None => true,
+        Some(n) => number < n as u64,
     }
 }
 

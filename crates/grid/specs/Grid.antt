@@ -1,6 +1,6 @@
 -- How a case of the grid is held: the whole answer of a rule's calls, or the number of its refusal.
 -- Assumes nothing.
-use Rattle.std.specs.Prelude.{ℕ, ◌≡◌, List, [], map}
+use Rattle.std.specs.Prelude.{ℕ, ◌≡◌, List, [], map, Ok, Err}
 use Rattle.calendar.specs.Calendar.{leap, new_year, days_before_month}
 use Rattle.machine.specs.declared.State.{State}
 use Rattle.machine.specs.declared.Stop.{Stop}
@@ -8,8 +8,8 @@ use Rattle.machine.specs.declared.Cursor.{Cursor}
 use Rattle.machine.specs.Faults.{fault_number}
 use Rattle.machine.specs.Run.{counted, at_candidate, move_on}
 use Rattle.machine.specs.Compute.{walk, after, runs}
-use Rattle.rule.specs.declared.rrule.Verdict.{Verdict}
-use Rattle.rule.specs.declared.rrule.Checked.{Checked}
+use Rattle.rule.specs.Refusals.{Verdict}
+use Rattle.rule.specs.Filling.{Checked}
 use Rattle.rule.specs.declared.rrule.Rule.{Rule}
 use Rattle.rule.specs.Raw.{Raw}
 use Rattle.rule.specs.Refusals.{refusal_number, verdict}
@@ -38,8 +38,8 @@ HoldsFrom state k place number c = holding_from (record { state = state; k = k; 
 
 -- the number of the check's refusal, 0 where it accepts
 abbrev pub number_in : Verdict → ℕ
-number_in (Verdict.Refused n) = refusal_number n
-number_in Verdict.Accepted = 0
+number_in (Err n) = refusal_number n
+number_in (Ok tt) = 0
 
 pub record Judged : Type 0 where
   pub raw : Raw

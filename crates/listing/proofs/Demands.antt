@@ -1,5 +1,6 @@
 -- Demands 1 and 3 of the code: corollaries of `run`'s promise.
 -- Assumes nothing.
+use Rattle.std.specs.Prelude.{Some}
 use Prim.Native.Nat.{ℕ, ◌+◌, ◌≤◌}
 use mathlib.Core.Path.{◌≡◌, refl, sym, ap, ◌∙◌, subst}
 use mathlib.Core.Logic.{◌↔◌}
@@ -16,7 +17,6 @@ use Rattle.machine.specs.Calls.{Answered, beside, answered, Told, tells, join, c
 use Rattle.machine.specs.Promises.{Reason, KeepsTo}
 use Rattle.machine.specs.Faults.{refused_answer}
 use Rattle.machine.proofs.Refusals.{record_refused, cursor_refused, refused_as_given}
-use Rattle.rule.specs.declared.rrule.Count.{Count}
 use Rattle.rule.specs.declared.rrule.Rule.{Rule}
 use Rattle.rule.specs.Filling.{checked}
 use Rattle.rule.specs.Meaning.{RisesFrom}
@@ -125,7 +125,7 @@ demand_three w ok xs p =
       rises = subst (RisesFrom 0) listed l.rises;
       only = λ t h. l.only t (subst (λ (ys : List ℕ). t ∈ ys) (sym listed) h);
       all = λ t u h s le. subst (λ (ys : List ℕ). t ∈ ys) listed (l.all t u (subst (λ (ys : List ℕ). u ∈ ys) (sym listed) h) s le);
-      by_count = λ e. subst (λ (ys : List ℕ). r.count ≡ Count.Times (length ys)) listed (l.by_count (state ∙ e));
+      by_count = λ e. subst (λ (ys : List ℕ). r.count ≡ Some (length ys)) listed (l.by_count (state ∙ e));
       none_left = λ cause e n t s. subst (λ (ys : List ℕ). t ∈ ys) listed (l.none_left cause (state ∙ e) n t s);
     }
 

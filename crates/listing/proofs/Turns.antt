@@ -1,6 +1,6 @@
 -- One turn of the run's loop: what is opened is the rule's own period, and what is walked are its kept candidates.
 -- Assumes nothing.
-use Rattle.std.specs.Prelude.{if◌then◌else◌}
+use Rattle.std.specs.Prelude.{if◌then◌else◌, Option, Some, None}
 use Prim.Native.Nat.{ℕ, ◌+◌, ◌-◌, ◌*◌, ◌^◌, ◌≤◌, ◌<◌}
 use mathlib.Core.Path.{◌≡◌, refl, sym, ap, ◌∙◌, subst}
 use mathlib.Core.Bool.{Bool, true, false, ◌&&◌, ◌||◌}
@@ -24,7 +24,6 @@ use Rattle.machine.specs.Cursors.{remaining, poised, Poised}
 use Rattle.machine.specs.Faults.{refused_answer}
 use Rattle.machine.specs.Run.{Now}
 use Rattle.machine.specs.Compute as compute
-use Rattle.rule.specs.declared.rrule.Until.{Until}
 use Rattle.rule.specs.declared.rrule.Rule.{Rule}
 use Rattle.rule.specs.Periods.{in_range}
 use Rattle.rule.specs.Candidates.{kept}
@@ -107,9 +106,9 @@ clash : {A : Type 0} → ◌≡◌ {A = Bool} true false → A
 clash e = absurd (let z : ◌≡◌ {A = ℕ} 0 1 = cc in omega arith)
 
 -- the bounds of the plan are those that the rule's run is given
-until_is : (u : Until) → until_of u ≡ bound_of (until_second u)
-until_is Until.Absent = refl
-until_is (Until.At t) = refl
+until_is : (u : Option ℕ) → until_of u ≡ bound_of (until_second u)
+until_is None = refl
+until_is (Some t) = refl
 
 -- down to DAILY a move doesn't ask the day
 coarse_alike : (f : Frequency) (interval : ℕ) (c : Counter) (clock : List Bool) → is_below Frequency.Daily f ≡ false → (x y : Bool)

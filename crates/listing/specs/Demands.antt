@@ -1,6 +1,6 @@
 -- What the promise of `run` means for those who call it: demands 1 and 3, in words of calls.
 -- Assumes nothing.
-use Rattle.std.specs.Prelude.{ℕ, ◌≤◌, ◌≡◌, ◌↔◌, true, false, List, [], ◌∷◌, ◌++◌, length, take, drop}
+use Rattle.std.specs.Prelude.{ℕ, ◌≤◌, ◌≡◌, ◌↔◌, true, false, List, [], ◌∷◌, ◌++◌, length, take, drop, Some, Ok}
 use Rattle.machine.specs.declared.Cause.{Cause}
 use Rattle.machine.specs.declared.State.{State}
 use Rattle.machine.specs.declared.Fault.{Fault}
@@ -10,8 +10,7 @@ use Rattle.machine.specs.declared.Answer.{Answer}
 use Rattle.machine.specs.Rising.{◌∈◌}
 use Rattle.machine.specs.Cursors.{WellFormed}
 use Rattle.machine.specs.Calls.{beside}
-use Rattle.rule.specs.declared.rrule.Count.{Count}
-use Rattle.rule.specs.declared.rrule.Verdict.{Verdict}
+use Rattle.rule.specs.Refusals.{Verdict}
 use Rattle.rule.specs.declared.rrule.Rule.{Rule}
 use Rattle.rule.specs.Raw.{Raw}
 use Rattle.rule.specs.Filling.{checked}
@@ -82,18 +81,18 @@ pub record Listing (r : Rule) (xs : List Made) : Type 0 where
   pub only : (t : ℕ) → t ∈ handed_out xs → Satisfies r t
   pub all : (t u : ℕ) → u ∈ handed_out xs → Satisfies r t → t ≤ u → t ∈ handed_out xs
   -- an end by COUNT means exactly that many; any other end that none remains
-  pub by_count : (left_by (fresh_of r) xs).state ≡ State.Ended Cause.Count → r.count ≡ Count.Times (length (handed_out xs))
+  pub by_count : (left_by (fresh_of r) xs).state ≡ State.Ended Cause.Count → r.count ≡ Some (length (handed_out xs))
   pub none_left : (cause : Cause) → (left_by (fresh_of r) xs).state ≡ State.Ended cause → (cause ≡ Cause.Count → ⊥) → (t : ℕ) → Satisfies r t → t ∈ handed_out xs
 
 abbrev pub DemandThree : Type 0
 DemandThree =
-    (w : Raw) → (checked w).verdict ≡ Verdict.Accepted → (xs : List Made)
+    (w : Raw) → (checked w).verdict ≡ Ok tt → (xs : List Made)
     → Chain (checked w).rule (fresh_of (checked w).rule) xs → Listing (checked w).rule xs
 
 -- as it was said before request 2026-01, when the check took INTERVAL 0
 abbrev pub DemandThreeBefore : Type 0
 DemandThreeBefore =
-    (w : Raw) → (checked w).verdict ≡ Verdict.Accepted → 1 ≤ w.interval → (xs : List Made)
+    (w : Raw) → (checked w).verdict ≡ Ok tt → 1 ≤ w.interval → (xs : List Made)
     → Chain (checked w).rule (fresh_of (checked w).rule) xs → Listing (checked w).rule xs
 
 -- No calls from the fresh cursor of a good record are ended by Interval.

@@ -1,27 +1,27 @@
 // One run's cursor and answer. What a run does is said in specs/, over any periods and any moves.
 #![tactic(auto)]
 
-// Why a cursor is ended.
-#[derive(Clone, Copy)]
+// Why a cursor is ended, each cause with its number at the edge to C.
+#[derive(Clone, Copy, PartialEq, Eq)]
 pub enum Cause {
-    Count,
-    Interval,
-    Until,
-    NoTick,
-    Range,
+    Count = 1,
+    Interval = 2,
+    Until = 3,
+    NoTick = 4,
+    Range = 5,
 }
 
-#[derive(Clone, Copy)]
+#[derive(Clone, Copy, PartialEq, Eq)]
 pub enum State {
     Running,
     Ended(Cause),
 }
 
-// What a run refuses: the record, or the cursor.
-#[derive(Clone, Copy)]
+// What a run refuses: the record, or the cursor. Each with its number.
+#[derive(Clone, Copy, PartialEq, Eq)]
 pub enum Fault {
-    Record,
-    Cursor,
+    Record = 20,
+    Cursor = 21,
 }
 
 // Why a call has stopped.

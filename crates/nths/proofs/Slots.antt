@@ -1,5 +1,6 @@
 -- Where a value stands in a set: the slots that the code reads.
 -- Assumes nothing.
+use Rattle.std.specs.Prelude.{Some}
 use Prim.Native.Nat.{ℕ, zero, suc, ◌+◌, ◌-◌, ◌*◌, ◌/◌, ◌≤◌, ◌<◌}
 use mathlib.Core.Path.{◌≡◌, refl, ap, ◌∙◌}
 use mathlib.Core.Bool.{Bool, false, ◌||◌}
@@ -9,16 +10,15 @@ use lib.IntN.{pos, negsuc}
 use native.Mathlib.Omega.{arith}
 use borrow.Author.Tests.{le-leb}
 use Rattle.rule.specs.declared.rrule.Range.{Range}
-use Rattle.rule.specs.declared.rrule.Slot.{Slot}
 use Rattle.rule.specs.Lists.{zeros, slot_of, months, nths, weekdays, pair_slot, is_in, is_pair_in}
 use Rattle.rule.specs.Days.{either_end, nth_passes}
 
 -- the slot of a value of a range, forward and from the end
-pub slot_forward : (g : Range) (v : ℕ) → v < g.positives → slot_of g (pos (suc v)) ≡ Slot.At (g.negatives + zeros g + v)
+pub slot_forward : (g : Range) (v : ℕ) → v < g.positives → slot_of g (pos (suc v)) ≡ Some (g.negatives + zeros g + v)
 unfolding slot_of
 slot_forward g v h = rw (le-leb (suc v) g.positives (omega arith))
 
-pub slot_back : (g : Range) (v : ℕ) → v < g.negatives → slot_of g (negsuc v) ≡ Slot.At (g.negatives - suc v)
+pub slot_back : (g : Range) (v : ℕ) → v < g.negatives → slot_of g (negsuc v) ≡ Some (g.negatives - suc v)
 unfolding slot_of
 slot_back g v h = rw (le-leb (suc v) g.negatives (omega arith))
 
@@ -46,10 +46,10 @@ end_slots g s (suc p) n z l h a b =
     rw (e, in_forward g s p (omega arith), in_back g s (n - suc p) (omega arith), f)
 
 -- BYDAY's slots: a weekday; the pairs (n, weekday) with n forward, from the end, and 0
-weekday_slot : (w : ℕ) → w < 7 → slot_of weekdays (pos w) ≡ Slot.At w
+weekday_slot : (w : ℕ) → w < 7 → slot_of weekdays (pos w) ≡ Some w
 unfolding slot_of
 weekday_slot zero h = refl
-weekday_slot (suc w) h = slot_forward weekdays w (omega arith) ∙ ap Slot.At (omega arith)
+weekday_slot (suc w) h = slot_forward weekdays w (omega arith) ∙ ap Some (omega arith)
 
 pair_forward : (s : List Bool) (a w : ℕ) → a < 53 → w < 7 → is_pair_in s (pos (suc a)) (pos w) ≡ get_or s ((54 + a) * 7 + w) false
 unfolding is_pair_in pair_slot

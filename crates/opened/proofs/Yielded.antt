@@ -1,5 +1,6 @@
 -- What a record has that an accepted check yields.
 -- Assumes nothing.
+use Rattle.std.specs.Prelude.{Option, Ok, Err}
 use Prim.Native.Nat.{ℕ, zero, suc, ◌+◌, ◌≤◌}
 use mathlib.Core.Path.{◌≡◌, refl, ap, subst, ◌∙◌}
 use mathlib.Core.Bool.{Bool, true, false, not, ◌&&◌}
@@ -9,8 +10,7 @@ use lib.ListN.{length}
 use borrow.Author.Tests.{ltb-false}
 use Rattle.rule.specs.declared.rrule.Refusal.{Refusal}
 use Rattle.rule.specs.declared.rrule.Rule.{Rule}
-use Rattle.rule.specs.declared.rrule.Slot.{Slot}
-use Rattle.rule.specs.declared.rrule.Verdict.{Verdict}
+use Rattle.rule.specs.Refusals.{Verdict}
 use Rattle.rule.specs.Instants.{last_instant}
 use Rattle.rule.specs.Lists.{flags, some_at, set_of, months, monthdays, yeardays, weeknos, hours, minutes, seconds, positions}
 use Rattle.rule.specs.Raw.{Raw, entries, pairs}
@@ -27,7 +27,7 @@ unfolding flags
 length_flags f zero i = refl
 length_flags f (suc n) i = ap suc (length_flags f n (i + 1))
 
-length_set_of : (n : ℕ) (es : List Slot) → length (set_of n es) ≡ n
+length_set_of : (n : ℕ) (es : List (Option ℕ)) → length (set_of n es) ≡ n
 unfolding set_of
 length_set_of n es = length_flags (λ i. some_at i es) n 0
 
@@ -46,10 +46,10 @@ given_sized w = record {
   bysetpos = length_set_of 732 (entries positions w.lists.bysetpos);
 }
 
-answered : (v : Verdict) (q r : Rule) → (answers v q).verdict ≡ Verdict.Accepted → (answers v q).rule ≡ r → q ≡ r
+answered : (v : Verdict) (q r : Rule) → (answers v q).verdict ≡ Ok tt → (answers v q).rule ≡ r → q ≡ r
 unfolding answers
-answered (Verdict.Refused n) q r a e = absurd (let z : ◌≡◌ {A = ℕ} 0 1 = cc in omega arith)
-answered Verdict.Accepted q r a e = e
+answered (Err n) q r a e = absurd (let z : ◌≡◌ {A = ℕ} 0 1 = cc in omega arith)
+answered (Ok tt) q r a e = e
 
 yields_sized : (w : Raw) (r : Rule) → Yields w r → Sized r
 unfolding checked

@@ -15,7 +15,6 @@ use comma_lists::{days_at, entries_at, fill_days, fill_entries};
 use moments::moment_at;
 use numerals::{is_at, number_at};
 use recur::{Outline, Reached, Reading, Stopped};
-use rule::rrule::{Count, Until};
 use spelling::{frequency_at, name_at, weekday_at};
 
 // A text may have so many bytes.
@@ -34,8 +33,8 @@ struct Scanned {
 struct Numbers {
     freq: u8,
     interval: u16,
-    count: Count,
-    until: Until,
+    count: Option<u32>,
+    until: Option<u64>,
     wkst: u8,
 }
 
@@ -138,24 +137,24 @@ fn interval_in(text: &[u8], place: usize) -> u16
     number_at(text, place, 65535).value as u16
 }
 
-fn count_in(text: &[u8], place: usize) -> Count
+fn count_in(text: &[u8], place: usize) -> Option<u32>
     requires { Standing (up_to_high 4294967295) place text.now }
     ensures { result ≡ as_count (value_by (up_to_high 4294967295) place text.now) }
 {
     if place == 0 {
-        return Count::Absent;
+        return None;
     }
-    Count::Times(number_at(text, place, 4294967295).value as u32)
+    Some(number_at(text, place, 4294967295).value as u32)
 }
 
-fn until_in(text: &[u8], place: usize) -> Until
+fn until_in(text: &[u8], place: usize) -> Option<u64>
     requires { Standing moment place text.now }
     ensures { result ≡ as_until (value_by moment place text.now) }
 {
     if place == 0 {
-        return Until::Absent;
+        return None;
     }
-    Until::At(moment_at(text, place).value)
+    Some(moment_at(text, place).value)
 }
 
 fn wkst_in(text: &[u8], place: usize) -> u8

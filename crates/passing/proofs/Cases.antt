@@ -1,13 +1,12 @@
 -- Worked cases of days that are passed, by computation: two days of 1970, each at nine and at ten.
 -- Assumes nothing.
+use Rattle.std.specs.Prelude.{Option, None}
 use Prim.Native.Nat.{ℕ, ◌+◌}
 use mathlib.Core.Path.{◌≡◌, refl}
 use mathlib.Core.Bool.{false}
 use mathlib.Core.List.{List, [], ◌∷◌}
 use Rattle.machine.specs.declared.State.{State}
-use Rattle.rule.specs.declared.rrule.Count.{Count}
 use Rattle.rule.specs.declared.rrule.Frequency.{Frequency}
-use Rattle.rule.specs.declared.rrule.Until.{Until}
 use Rattle.walks.specs.declared.rrule_iter.Held.{Held}
 use Rattle.walks.specs.declared.rrule_iter.Bounds.{Bounds}
 use Rattle.walks.specs.declared.rrule_iter.Frame.{Frame}
@@ -24,14 +23,14 @@ days = 0 ∷ 2 ∷ []
 at : ℕ → ℕ → ℕ → Held
 at place number handed = record { cursor = record { state = State.Running; k = 0; place = place; number = number }; moves = 0; handed = handed }
 
-from : ℕ → Until → Count → Bounds
+from : ℕ → Option ℕ → Option ℕ → Bounds
 from t until count = record { start = 62135596800 + t; until = until; count = count }
 
 -- the first day is passed at one go where the start is on the next; and not where the start is its last second
-passed : passed_days false frame (from 86400 Until.Absent Count.Absent) (at 0 0 0) days ≡ at 2 0 0
+passed : passed_days false frame (from 86400 None None) (at 0 0 0) days ≡ at 2 0 0
 unfolding is_framed passed_days passable frame days at from
 passed = refl
 
-not_passed : passed_days false frame (from 86399 Until.Absent Count.Absent) (at 0 0 0) days ≡ at 0 0 0
+not_passed : passed_days false frame (from 86399 None None) (at 0 0 0) days ≡ at 0 0 0
 unfolding is_framed passed_days passable frame days at from
 not_passed = refl

@@ -5,7 +5,6 @@ ghost use Rattle.rule.specs.Run.{count_of};
 ghost use Rattle.walks.specs.Walks.{bound_of};
 ghost use Rattle.passing.specs.Passing.{is_ready, is_passed, passed_days};
 
-use rule::rrule::{Count, Until};
 use times::iterinfo::quotient;
 use walks::rrule_iter::{Bounds, Frame, Held, is_framed, midnight_of};
 
@@ -15,8 +14,8 @@ pub fn is_late(bounds: Bounds, second: u64) -> bool
 {
     let until = bounds.until;
     match until {
-        Until::Absent => false,
-        Until::At(last) => last < second,
+        None => false,
+        Some(last) => last < second,
     }
 }
 
@@ -26,8 +25,8 @@ pub fn is_reached(bounds: Bounds, number: u64) -> bool
 {
     let count = bounds.count;
     match count {
-        Count::Absent => false,
-        Count::Times(n) => number == n as u64,
+        None => false,
+        Some(n) => number == n as u64,
     }
 }
 

@@ -1,7 +1,6 @@
 -- What a call needs of its rule.
 -- Assumes nothing.
-use Rattle.std.specs.Prelude.{ℕ, not, ltb, if◌then◌else◌}
-use Rattle.rule.specs.declared.rrule.Until.{Until}
+use Rattle.std.specs.Prelude.{ℕ, not, ltb, if◌then◌else◌, Option, Some, None}
 use Rattle.rule.specs.declared.rrule.Rule.{Rule}
 use Rattle.rule.specs.Instants.{last_instant, second}
 use Rattle.rule.specs.Lists.{is_empty}
@@ -24,7 +23,7 @@ shape_of r = record {
 }
 
 -- a plan from the start and UNTIL as seconds
-unfoldable pub plan_from : Rule → ℕ → Until → Plan
+unfoldable pub plan_from : Rule → ℕ → Option ℕ → Plan
 unfolding shape_of clock_in sets_in
 plan_from r start until = record {
   shape = shape_of r;
@@ -35,9 +34,9 @@ plan_from r start until = record {
 }
 
 -- UNTIL as a second
-abbrev pub until_second : Until → Until
-until_second Until.Absent = Until.Absent
-until_second (Until.At t) = Until.At (second t)
+abbrev pub until_second : Option ℕ → Option ℕ
+until_second None = None
+until_second (Some t) = Some (second t)
 
 unfoldable pub bounds_of : Rule → Bounds
 bounds_of r = record { start = second r.start; until = until_second r.until; count = r.count }
@@ -50,9 +49,9 @@ plan_of r = plan_from r (second r.start) (until_second r.until)
 unfoldable pub second_in : ℕ → ℕ
 second_in t = if ltb last_instant t then 0 else second t
 
-abbrev pub until_in : Until → Until
-until_in Until.Absent = Until.Absent
-until_in (Until.At t) = Until.At (second_in t)
+abbrev pub until_in : Option ℕ → Option ℕ
+until_in None = None
+until_in (Some t) = Some (second_in t)
 
 unfoldable pub plan_in : Rule → Plan
 unfolding plan_from second_in

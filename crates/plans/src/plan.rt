@@ -5,7 +5,7 @@ ghost use Rattle.plans.specs.Plans.{second_in, until_in, plan_in};
 use basics::lists::is_empty;
 use basics::rrule::frequency_number;
 use clocks::iterinfo::{get_clock, get_timeset};
-use rule::rrule::{Frequency, Rule, Until};
+use rule::rrule::{Frequency, Rule};
 use times::iterinfo::Counts;
 use walks::rrule_iter::Bounds;
 use years::lists::{Asked, asked_lists};
@@ -48,12 +48,12 @@ fn second_in(instant: u64) -> u64
 }
 
 // UNTIL as a second.
-fn until_in(until: Until) -> Until
+fn until_in(until: Option<u64>) -> Option<u64>
     ensures { result ≡ until_in until }
 {
     match until {
-        Until::Absent => Until::Absent,
-        Until::At(t) => Until::At(second_in(t)),
+        None => None,
+        Some(t) => Some(second_in(t)),
     }
 }
 

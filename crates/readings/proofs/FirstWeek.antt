@@ -1,5 +1,6 @@
 -- The cases of request 2026-02: the first week is a whole week.
 -- Assumes nothing.
+use Rattle.std.specs.Prelude.{Option, Some, None}
 use Prim.Native.Nat.{ℕ}
 use mathlib.Core.Path.{◌≡◌, refl}
 use mathlib.Core.List.{List, [], ◌∷◌, map}
@@ -11,18 +12,16 @@ use Rattle.machine.specs.declared.Stop.{Stop}
 use Rattle.calendar.specs.Calendar.{leap, new_year, days_before_month}
 use Rattle.machine.specs.Compute.{runs, after, walk}
 use Rattle.machine.specs.Run.{at_candidate, counted, move_on}
-use Rattle.rule.specs.declared.rrule.Count.{Count}
-use Rattle.rule.specs.declared.rrule.Until.{Until}
 use Rattle.rule.specs.Raw.{Raw, raw, raw_lists}
 use Rattle.cases.specs.Play.{of, at, told, Outcome.answers, play, play_from}
 
 -- a WEEKLY rule by INTERVAL, UNTIL, week start, start, BYMONTH, weekdays and BYSETPOS; and one with weekdays and BYSETPOS alone
-abbrev weekly_by : ℕ → Until → (wkst start : ℕ) → (months days positions : List ℤ) → Raw
+abbrev weekly_by : ℕ → Option ℕ → (wkst start : ℕ) → (months days positions : List ℤ) → Raw
 weekly_by interval until wkst start months days positions =
-    raw 2 interval Count.Absent until wkst start (raw_lists months [] [] [] (map (λ (d : ℤ). pos 0) days) days [] [] [] positions)
+    raw 2 interval None until wkst start (raw_lists months [] [] [] (map (λ (d : ℤ). pos 0) days) days [] [] [] positions)
 
 abbrev weekly : ℕ → (days positions : List ℤ) → Raw
-weekly start days positions = weekly_by 1 Until.Absent 0 start [] days positions
+weekly start days positions = weekly_by 1 None 0 start [] days positions
 
 -- ---- the week of Wednesday 2024-01-03
 
@@ -63,14 +62,14 @@ second_from_the_end = refl
 
 -- INTERVAL 2: 15 and 29 January
 every_other_week :
-    play (weekly_by 2 Until.Absent 0 1704240000 [] (pos 0 ∷ pos 4 ∷ []) (pos 1 ∷ [])) (of 2 5 ∷ [])
+    play (weekly_by 2 None 0 1704240000 [] (pos 0 ∷ pos 4 ∷ []) (pos 1 ∷ [])) (of 2 5 ∷ [])
     ≡ answers (told Stop.More (at State.Running 2 1 2) 2 2 (1705276800 ∷ 1706486400 ∷ []) ∷ [])
 unfolding play play_from runs after walk at_candidate counted move_on leap new_year days_before_month
 every_other_week = refl
 
 -- weeks from Wednesday: the start's day is the first, and Friday is position 1
 on_the_week_start :
-    play (weekly_by 1 Until.Absent 2 1704240000 [] (pos 0 ∷ pos 4 ∷ []) (pos 1 ∷ [])) (of 1 5 ∷ [])
+    play (weekly_by 1 None 2 1704240000 [] (pos 0 ∷ pos 4 ∷ []) (pos 1 ∷ [])) (of 1 5 ∷ [])
     ≡ answers (told Stop.More (at State.Running 0 1 1) 0 1 (1704412800 ∷ []) ∷ [])
 unfolding play play_from runs after walk at_candidate counted move_on leap new_year days_before_month
 on_the_week_start = refl
@@ -79,20 +78,20 @@ on_the_week_start = refl
 
 -- Monday lies by UNTIL and is passed, Tuesday doesn't
 monday_passed :
-    play (weekly_by 1 (Until.At 1704110400) 0 1704240000 [] (pos 0 ∷ pos 1 ∷ pos 2 ∷ []) []) (of 1 5 ∷ [])
+    play (weekly_by 1 (Some 1704110400) 0 1704240000 [] (pos 0 ∷ pos 1 ∷ pos 2 ∷ []) []) (of 1 5 ∷ [])
     ≡ answers (told Stop.Ended (at (State.Ended Cause.Until) 0 1 0) 0 0 (100 ∷ []) ∷ [])
 unfolding play play_from runs after walk at_candidate counted move_on leap new_year days_before_month
 monday_passed = refl
 
 -- Tuesday ends the run before a move is made, with no move allowed too
 tuesday_ends :
-    play (weekly_by 1 (Until.At 1704067200) 0 1704240000 [] (pos 1 ∷ []) []) (of 1 5 ∷ [])
+    play (weekly_by 1 (Some 1704067200) 0 1704240000 [] (pos 1 ∷ []) []) (of 1 5 ∷ [])
     ≡ answers (told Stop.Ended (at (State.Ended Cause.Until) 0 0 0) 0 0 (100 ∷ []) ∷ [])
 unfolding play play_from runs after walk at_candidate counted move_on leap new_year days_before_month
 tuesday_ends = refl
 
 tuesday_ends_unmoved :
-    play (weekly_by 1 (Until.At 1704067200) 0 1704240000 [] (pos 1 ∷ []) []) (of 1 0 ∷ [])
+    play (weekly_by 1 (Some 1704067200) 0 1704240000 [] (pos 1 ∷ []) []) (of 1 0 ∷ [])
     ≡ answers (told Stop.Ended (at (State.Ended Cause.Until) 0 0 0) 0 0 (100 ∷ []) ∷ [])
 unfolding play play_from runs after walk at_candidate counted move_on leap new_year days_before_month
 tuesday_ends_unmoved = refl
@@ -189,56 +188,56 @@ monday_not_as_instant_0 = refl
 
 -- the fourth day of the week, with each week start
 fourth_day_from_monday :
-    play (weekly_by 1 Until.Absent 0 0 [] (pos 0 ∷ pos 1 ∷ pos 2 ∷ pos 3 ∷ pos 4 ∷ pos 5 ∷ pos 6 ∷ []) (pos 4 ∷ [])) (of 1 5 ∷ [])
+    play (weekly_by 1 None 0 0 [] (pos 0 ∷ pos 1 ∷ pos 2 ∷ pos 3 ∷ pos 4 ∷ pos 5 ∷ pos 6 ∷ []) (pos 4 ∷ [])) (of 1 5 ∷ [])
     ≡ answers (told Stop.More (at State.Running 0 1 1) 0 1 (0 ∷ []) ∷ [])
 unfolding play play_from runs after walk at_candidate counted move_on leap new_year days_before_month
 fourth_day_from_monday = refl
 
 fourth_day_from_tuesday :
-    play (weekly_by 1 Until.Absent 1 0 [] (pos 0 ∷ pos 1 ∷ pos 2 ∷ pos 3 ∷ pos 4 ∷ pos 5 ∷ pos 6 ∷ []) (pos 4 ∷ [])) (of 1 5 ∷ [])
+    play (weekly_by 1 None 1 0 [] (pos 0 ∷ pos 1 ∷ pos 2 ∷ pos 3 ∷ pos 4 ∷ pos 5 ∷ pos 6 ∷ []) (pos 4 ∷ [])) (of 1 5 ∷ [])
     ≡ answers (told Stop.More (at State.Running 0 1 1) 0 1 (86400 ∷ []) ∷ [])
 unfolding play play_from runs after walk at_candidate counted move_on leap new_year days_before_month
 fourth_day_from_tuesday = refl
 
 fourth_day_from_wednesday :
-    play (weekly_by 1 Until.Absent 2 0 [] (pos 0 ∷ pos 1 ∷ pos 2 ∷ pos 3 ∷ pos 4 ∷ pos 5 ∷ pos 6 ∷ []) (pos 4 ∷ [])) (of 1 5 ∷ [])
+    play (weekly_by 1 None 2 0 [] (pos 0 ∷ pos 1 ∷ pos 2 ∷ pos 3 ∷ pos 4 ∷ pos 5 ∷ pos 6 ∷ []) (pos 4 ∷ [])) (of 1 5 ∷ [])
     ≡ answers (told Stop.More (at State.Running 0 1 1) 0 1 (172800 ∷ []) ∷ [])
 unfolding play play_from runs after walk at_candidate counted move_on leap new_year days_before_month
 fourth_day_from_wednesday = refl
 
 fourth_day_from_thursday :
-    play (weekly_by 1 Until.Absent 3 0 [] (pos 0 ∷ pos 1 ∷ pos 2 ∷ pos 3 ∷ pos 4 ∷ pos 5 ∷ pos 6 ∷ []) (pos 4 ∷ [])) (of 1 5 ∷ [])
+    play (weekly_by 1 None 3 0 [] (pos 0 ∷ pos 1 ∷ pos 2 ∷ pos 3 ∷ pos 4 ∷ pos 5 ∷ pos 6 ∷ []) (pos 4 ∷ [])) (of 1 5 ∷ [])
     ≡ answers (told Stop.More (at State.Running 0 1 1) 0 1 (259200 ∷ []) ∷ [])
 unfolding play play_from runs after walk at_candidate counted move_on leap new_year days_before_month
 fourth_day_from_thursday = refl
 
 fourth_day_from_friday :
-    play (weekly_by 1 Until.Absent 4 0 [] (pos 0 ∷ pos 1 ∷ pos 2 ∷ pos 3 ∷ pos 4 ∷ pos 5 ∷ pos 6 ∷ []) (pos 4 ∷ [])) (of 1 5 ∷ [])
+    play (weekly_by 1 None 4 0 [] (pos 0 ∷ pos 1 ∷ pos 2 ∷ pos 3 ∷ pos 4 ∷ pos 5 ∷ pos 6 ∷ []) (pos 4 ∷ [])) (of 1 5 ∷ [])
     ≡ answers (told Stop.More (at State.Running 1 1 1) 1 1 (345600 ∷ []) ∷ [])
 unfolding play play_from runs after walk at_candidate counted move_on leap new_year days_before_month
 fourth_day_from_friday = refl
 
 fourth_day_from_saturday :
-    play (weekly_by 1 Until.Absent 5 0 [] (pos 0 ∷ pos 1 ∷ pos 2 ∷ pos 3 ∷ pos 4 ∷ pos 5 ∷ pos 6 ∷ []) (pos 4 ∷ [])) (of 1 5 ∷ [])
+    play (weekly_by 1 None 5 0 [] (pos 0 ∷ pos 1 ∷ pos 2 ∷ pos 3 ∷ pos 4 ∷ pos 5 ∷ pos 6 ∷ []) (pos 4 ∷ [])) (of 1 5 ∷ [])
     ≡ answers (told Stop.More (at State.Running 1 1 1) 1 1 (432000 ∷ []) ∷ [])
 unfolding play play_from runs after walk at_candidate counted move_on leap new_year days_before_month
 fourth_day_from_saturday = refl
 
 fourth_day_from_sunday :
-    play (weekly_by 1 Until.Absent 6 0 [] (pos 0 ∷ pos 1 ∷ pos 2 ∷ pos 3 ∷ pos 4 ∷ pos 5 ∷ pos 6 ∷ []) (pos 4 ∷ [])) (of 1 5 ∷ [])
+    play (weekly_by 1 None 6 0 [] (pos 0 ∷ pos 1 ∷ pos 2 ∷ pos 3 ∷ pos 4 ∷ pos 5 ∷ pos 6 ∷ []) (pos 4 ∷ [])) (of 1 5 ∷ [])
     ≡ answers (told Stop.More (at State.Running 1 1 1) 1 1 (518400 ∷ []) ∷ [])
 unfolding play play_from runs after walk at_candidate counted move_on leap new_year days_before_month
 fourth_day_from_sunday = refl
 
 -- BYMONTH=12 has three days in week period 0: place 3 is well formed, place 4 is 21
 december_days :
-    play_from (at State.Running 0 3 0) (weekly_by 1 Until.Absent 0 0 (pos 12 ∷ []) (pos 0 ∷ pos 1 ∷ pos 2 ∷ pos 3 ∷ pos 4 ∷ pos 5 ∷ pos 6 ∷ []) []) (of 1 0 ∷ [])
+    play_from (at State.Running 0 3 0) (weekly_by 1 None 0 0 (pos 12 ∷ []) (pos 0 ∷ pos 1 ∷ pos 2 ∷ pos 3 ∷ pos 4 ∷ pos 5 ∷ pos 6 ∷ []) []) (of 1 0 ∷ [])
     ≡ answers (told Stop.Limited (at State.Running 0 3 0) 0 0 (100 ∷ []) ∷ [])
 unfolding play play_from runs after walk at_candidate counted move_on leap new_year days_before_month
 december_days = refl
 
 december_days_no_more :
-    play_from (at State.Running 0 4 0) (weekly_by 1 Until.Absent 0 0 (pos 12 ∷ []) (pos 0 ∷ pos 1 ∷ pos 2 ∷ pos 3 ∷ pos 4 ∷ pos 5 ∷ pos 6 ∷ []) []) (of 1 0 ∷ [])
+    play_from (at State.Running 0 4 0) (weekly_by 1 None 0 0 (pos 12 ∷ []) (pos 0 ∷ pos 1 ∷ pos 2 ∷ pos 3 ∷ pos 4 ∷ pos 5 ∷ pos 6 ∷ []) []) (of 1 0 ∷ [])
     ≡ answers (told (Stop.Refused Fault.Cursor) (at State.Running 0 4 0) 0 0 (100 ∷ []) ∷ [])
 unfolding play play_from runs after walk at_candidate counted move_on leap new_year days_before_month
 december_days_no_more = refl

@@ -11,7 +11,7 @@ use crate::flags::{
 };
 use basics::rrule::frequency_number;
 use cursor_layout::numbers::{put_1, put_2, put_4, put_8, read_2, read_4, read_8};
-use rule::rrule::{Count, Frequency, Rule, Until};
+use rule::rrule::{Frequency, Rule};
 
 const RECORD_LENGTH: usize = 2564;
 
@@ -41,60 +41,60 @@ fn frequency_of(number: u8) -> Frequency
     Frequency::Secondly
 }
 
-fn count_tag(count: Count) -> u8
+fn count_tag(count: Option<u32>) -> u8
     ensures { result ≡ count_tag count }
 {
     match count {
-        Count::Absent => 0,
-        Count::Times(_) => 1,
+        None => 0,
+        Some(_) => 1,
     }
 }
 
-fn count_number(count: Count) -> u32
+fn count_number(count: Option<u32>) -> u32
     ensures { result ≡ count_number count }
 {
     match count {
-        Count::Absent => 0,
-        Count::Times(n) => n,
+        None => 0,
+        Some(n) => n,
     }
 }
 
-fn until_tag(until: Until) -> u8
+fn until_tag(until: Option<u64>) -> u8
     ensures { result ≡ until_tag until }
 {
     match until {
-        Until::Absent => 0,
-        Until::At(_) => 1,
+        None => 0,
+        Some(_) => 1,
     }
 }
 
-fn until_number(until: Until) -> u64
+fn until_number(until: Option<u64>) -> u64
     ensures { result ≡ until_number until }
 {
     match until {
-        Until::Absent => 0,
-        Until::At(t) => t,
+        None => 0,
+        Some(t) => t,
     }
 }
 
 // COUNT and UNTIL from a tag and a number: absent where the tag is 0.
-pub fn count_from(tag: u8, number: u32) -> Count
+pub fn count_from(tag: u8, number: u32) -> Option<u32>
     ensures { result ≡ count_from tag number }
 {
     if tag == 0 {
-        Count::Absent
+        None
     } else {
-        Count::Times(number)
+        Some(number)
     }
 }
 
-pub fn until_from(tag: u8, number: u64) -> Until
+pub fn until_from(tag: u8, number: u64) -> Option<u64>
     ensures { result ≡ until_from tag number }
 {
     if tag == 0 {
-        Until::Absent
+        None
     } else {
-        Until::At(number)
+        Some(number)
     }
 }
 
@@ -134,8 +134,8 @@ fn record_of_none() -> Rule
     Rule {
         freq: Frequency::Yearly,
         interval: 0,
-        count: Count::Absent,
-        until: Until::Absent,
+        count: None,
+        until: None,
         wkst: 0,
         start: 0,
         bymonth,
@@ -194,8 +194,8 @@ pub fn record_in(bytes: &[u8]) -> Rule
 fn put_head(
     freq: Frequency,
     interval: u16,
-    count: Count,
-    until: Until,
+    count: Option<u32>,
+    until: Option<u64>,
     wkst: u8,
     start: u64,
     bytes: &mut [u8],

@@ -8,17 +8,17 @@ ghost use Rattle.rule.specs.Records.{has_every, has_nth, yielded};
 
 use basics::lists::is_empty;
 use basics::rrule::{count_and_until, frequency_number, has_nought, is_misplaced};
-use rule::rrule::{Rule, Until};
+use rule::rrule::Rule;
 
 // 9999-12-31T23:59:59Z
 const LAST_INSTANT: u64 = 253402300799;
 
-fn until_out(until: Until) -> bool
+fn until_out(until: Option<u64>) -> bool
     ensures { result ≡ until_out until }
 {
     match until {
-        Until::Absent => false,
-        Until::At(t) => LAST_INSTANT < t,
+        None => false,
+        Some(t) => LAST_INSTANT < t,
     }
 }
 

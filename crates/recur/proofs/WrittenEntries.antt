@@ -1,5 +1,6 @@
 -- Entries of lists as they are written: those of an accepted rule lie in their ranges, and are entries of the grammar with few bytes.
 -- Assumes nothing.
+use Rattle.std.specs.Prelude.{Option}
 use Prim.Native.Nat.{ℕ, zero, suc, ◌+◌, ◌≤◌, ◌<◌}
 use native.Mathlib.Omega.{arith}
 use mathlib.Core.Path.{◌≡◌, refl, ap, sym, ◌∙◌}
@@ -10,7 +11,6 @@ use lib.Dec.{leb}
 use lib.IntN.{ℤ, pos, negsuc, nat_abs}
 use borrow.Author.Tests.{leb-true}
 use Rattle.rule.specs.declared.rrule.Range.{Range}
-use Rattle.rule.specs.declared.rrule.Slot.{Slot}
 use Rattle.rule.specs.Lists.{within, slots, slot_of, nths, weekdays, set_of}
 use Rattle.rule.specs.Raw.{entries, pairs}
 use Rattle.rule.specs.Refusals.{some, is_outside, stray_in, strays, rises, pairs_rise}
@@ -52,7 +52,7 @@ few_slots i [] = omega arith
 few_slots i (true ∷ bs) = omega (arith, few_slots (i + 1) bs)
 few_slots i (false ∷ bs) = omega (arith, few_slots (i + 1) bs)
 
-few_read : (f : ℕ → ℤ) (n : ℕ) (es : List Slot) (l : List ℤ) → map f (slots_from 0 (set_of n es)) ≡ l → length l ≤ n
+few_read : (f : ℕ → ℤ) (n : ℕ) (es : List (Option ℕ)) (l : List ℤ) → map f (slots_from 0 (set_of n es)) ≡ l → length l ≤ n
 few_read f n es l e =
     let s : length l ≡ length (slots_from 0 (set_of n es)) = sym (ap length e) ∙ length-map (slots_from 0 (set_of n es)) f in
     omega (arith, few_slots 0 (set_of n es), length_set_of n es)

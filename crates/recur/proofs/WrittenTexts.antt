@@ -1,5 +1,6 @@
 -- What is claimed of written texts: they are good texts of their rules, fit, and read back.
 -- Assumes nothing.
+use Rattle.std.specs.Prelude.{Ok}
 use Prim.Native.Nat.{◌<◌}
 use native.Mathlib.Omega.{arith}
 use mathlib.Core.Path.{◌≡◌, refl, ap, sym, ◌∙◌}
@@ -7,7 +8,7 @@ use mathlib.Core.List.{List, ◌∷◌, ◌++◌}
 use lib.ListN.{length-append}
 use borrow.Author.Tests.{ltb-false}
 use Rattle.rule.specs.declared.rrule.Refusal.{Refusal}
-use Rattle.rule.specs.declared.rrule.Verdict.{Verdict}
+use Rattle.rule.specs.Refusals.{Verdict}
 use Rattle.rule.specs.Raw.{Raw}
 use Rattle.rule.specs.Refusals.{verdict}
 use Rattle.rule.proofs.RefusalLaws.{none_given}
@@ -27,7 +28,7 @@ use Rattle.recur.proofs.WrittenValues.{sound_lists, rest_values, rest_parts, rul
 abbrev freq_part : Raw → Part
 freq_part w = both 0 (number w.freq)
 
-freq_low : (w : Raw) → verdict w ≡ Verdict.Accepted → w.freq < 7
+freq_low : (w : Raw) → verdict w ≡ Ok tt → w.freq < 7
 freq_low w e = omega (arith, ltb-false 6 w.freq ((none_given w).0 e Refusal.FrequencyAbove))
 
 text_is : (w : Raw) → text_of w ≡ part_text (freq_part w) ++ parts_behind (parts_from 1 (rest_values w))

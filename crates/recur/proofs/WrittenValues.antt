@@ -1,5 +1,6 @@
 -- The values that a rule is written by, one for each name: of an accepted rule each fits, and they make the rule again.
 -- Assumes nothing.
+use Rattle.std.specs.Prelude.{Option, Some, None, Ok}
 use Prim.Native.Nat.{ℕ, suc, ◌*◌, ◌≤◌, ◌<◌}
 use native.Mathlib.Omega.{arith}
 use mathlib.Core.Path.{◌≡◌, refl, ap, sym, ◌∙◌}
@@ -9,11 +10,9 @@ use lib.ListN.{length, get_or}
 use lib.Dec.{eqb}
 use lib.IntN.{ℤ}
 use borrow.Author.Tests.{ltb-false, eqb-true, not-false}
-use Rattle.rule.specs.declared.rrule.Count.{Count}
-use Rattle.rule.specs.declared.rrule.Until.{Until}
 use Rattle.rule.specs.declared.rrule.Range.{Range}
 use Rattle.rule.specs.declared.rrule.Refusal.{Refusal}
-use Rattle.rule.specs.declared.rrule.Verdict.{Verdict}
+use Rattle.rule.specs.Refusals.{Verdict}
 use Rattle.rule.specs.Instants.{last_instant}
 use Rattle.rule.specs.Lists.{months, monthdays, yeardays, weeknos, nths, weekdays, hours, minutes, seconds, positions, slots}
 use Rattle.rule.specs.Raw.{RawLists, Raw, raw, raw_lists}
@@ -92,7 +91,7 @@ sound l e r =
       bysetpos = (a10.1, not-false _ b8.1);
     }
 
-pub sound_lists : (w : Raw) → verdict w ≡ Verdict.Accepted → Sound w.lists
+pub sound_lists : (w : Raw) → verdict w ≡ Ok tt → Sound w.lists
 sound_lists w e = sound w.lists ((none_given w).0 e Refusal.EntryOut) ((none_given w).0 e Refusal.NotRising)
 
 -- ---- the values
@@ -102,13 +101,13 @@ abbrev unless_value : Bool → Value → Value
 unless_value true v = absent
 unless_value false v = v
 
-abbrev count_value : Count → Value
-count_value Count.Absent = absent
-count_value (Count.Times n) = number n
+abbrev count_value : Option ℕ → Value
+count_value None = absent
+count_value (Some n) = number n
 
-abbrev until_value : Until → Value
-until_value Until.Absent = absent
-until_value (Until.At t) = number t
+abbrev until_value : Option ℕ → Value
+until_value None = absent
+until_value (Some t) = number t
 
 abbrev list_value : List ℤ → Value
 list_value [] = absent
@@ -141,13 +140,13 @@ unless_part : (b : Bool) (i n : ℕ) → unless b (both i (number n)) ≡ part_f
 unless_part true i n = refl
 unless_part false i n = refl
 
-count_part_lem : (c : Count) → count_part c ≡ part_for 2 (count_value c)
-count_part_lem Count.Absent = refl
-count_part_lem (Count.Times n) = refl
+count_part_lem : (c : Option ℕ) → count_part c ≡ part_for 2 (count_value c)
+count_part_lem None = refl
+count_part_lem (Some n) = refl
 
-until_part_lem : (u : Until) → until_part u ≡ part_for 3 (until_value u)
-until_part_lem Until.Absent = refl
-until_part_lem (Until.At t) = refl
+until_part_lem : (u : Option ℕ) → until_part u ≡ part_for 3 (until_value u)
+until_part_lem None = refl
+until_part_lem (Some t) = refl
 
 list_part_lem : (i : ℕ) (l : List ℤ) → list_part i l ≡ part_for i (list_value l)
 list_part_lem i [] = refl
@@ -183,13 +182,13 @@ unless_back d n = go (eqb n d) refl
     go true e = sym (eqb-true n d e)
     go false e = refl
 
-count_back : (c : Count) → as_count (count_value c) ≡ c
-count_back Count.Absent = refl
-count_back (Count.Times n) = refl
+count_back : (c : Option ℕ) → as_count (count_value c) ≡ c
+count_back None = refl
+count_back (Some n) = refl
 
-until_back : (u : Until) → as_until (until_value u) ≡ u
-until_back Until.Absent = refl
-until_back (Until.At t) = refl
+until_back : (u : Option ℕ) → as_until (until_value u) ≡ u
+until_back None = refl
+until_back (Some t) = refl
 
 entries_back : (l : List ℤ) → as_list (list_value l) ≡ l
 entries_back [] = refl
@@ -239,15 +238,15 @@ unless_fits : (k : Kind) (m : ℕ) (b : Bool) (v : Value) → Fits k m v → Fit
 unless_fits k m true v f = absent_fits k m
 unless_fits k m false v f = f
 
-count_fits : (c : Count) → CountInRange c → Fits (up_to_high 4294967295) 10 (count_value c)
+count_fits : (c : Option ℕ) → CountInRange c → Fits (up_to_high 4294967295) 10 (count_value c)
 unfolding ten_to
-count_fits Count.Absent h = absent_fits (up_to_high 4294967295) 10
-count_fits (Count.Times n) h = number_fits 4294967295 10 n (omega arith) (omega arith) (omega arith) h
+count_fits None h = absent_fits (up_to_high 4294967295) 10
+count_fits (Some n) h = number_fits 4294967295 10 n (omega arith) (omega arith) (omega arith) h
 
-until_fits : (u : Until) → until_out u ≡ false → Fits moment 16 (until_value u)
+until_fits : (u : Option ℕ) → until_out u ≡ false → Fits moment 16 (until_value u)
 unfolding value_text
-until_fits Until.Absent h = absent_fits moment 16
-until_fits (Until.At t) h = λ e. record {
+until_fits None h = absent_fits moment 16
+until_fits (Some t) h = λ e. record {
   spelled = record { from = t; spelled = moment_written t (ltb-false last_instant t h); turned = refl };
   short = omega (arith, moment_length t);
 }
@@ -294,7 +293,7 @@ byday_fits l s =
 pub all_fit : (w : Raw) → Writable w → AllFit 1 (rest_values w)
 unfolding ten_to
 all_fit w a =
-    let e : verdict w ≡ Verdict.Accepted = a.accepted in
+    let e : verdict w ≡ Ok tt = a.accepted in
     let l : RawLists = w.lists in
     let s : Sound w.lists = sound_lists w e in
     let i = number_fits 65535 5 w.interval (omega arith) (omega arith) (omega arith) a.interval in

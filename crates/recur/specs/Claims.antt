@@ -1,9 +1,7 @@
 -- What is claimed of texts; proofs/ has a proof of each claim, under the same name in small letters.
 -- Assumes nothing.
-use Rattle.std.specs.Prelude.{ℕ, ◌≤◌, ◌<◌, ◌≡◌, List, [], ◌∷◌, ◌++◌, length, take, ℤ, nat_abs}
-use Rattle.rule.specs.declared.rrule.Count.{Count}
-use Rattle.rule.specs.declared.rrule.Until.{Until}
-use Rattle.rule.specs.declared.rrule.Verdict.{Verdict}
+use Rattle.std.specs.Prelude.{ℕ, ◌≤◌, ◌<◌, ◌≡◌, List, [], ◌∷◌, ◌++◌, length, take, ℤ, nat_abs, Option, Some, None, Ok}
+use Rattle.rule.specs.Refusals.{Verdict}
 use Rattle.rule.specs.Instants.{last_instant}
 use Rattle.rule.specs.Raw.{RawLists, Raw}
 use Rattle.rule.specs.Refusals.{verdict}
@@ -57,13 +55,13 @@ pub record ListsInRange (l : RawLists) : Type 0 where
   pub bysecond : ListInRange l.bysecond
   pub bysetpos : ListInRange l.bysetpos
 
-abbrev pub CountInRange : Count → Type 0
-CountInRange Count.Absent = Unit {0}
-CountInRange (Count.Times n) = n ≤ 4294967295
+abbrev pub CountInRange : Option ℕ → Type 0
+CountInRange None = Unit {0}
+CountInRange (Some n) = n ≤ 4294967295
 
-abbrev pub UntilInRange : Until → Type 0
-UntilInRange Until.Absent = Unit {0}
-UntilInRange (Until.At t) = t ≤ last_instant
+abbrev pub UntilInRange : Option ℕ → Type 0
+UntilInRange None = Unit {0}
+UntilInRange (Some t) = t ≤ last_instant
 
 pub record InRange (w : Raw) : Type 0 where
   pub freq : w.freq ≤ 6
@@ -79,7 +77,7 @@ ReadInRange = (t : List ℕ) (w : Raw) → read_of t ≡ rule w → InRange w
 
 -- A rule that is written: the check takes it with start 0, and INTERVAL and COUNT have their types' ranges.
 pub record Writable (w : Raw) : Type 0 where
-  pub accepted : verdict w ≡ Verdict.Accepted
+  pub accepted : verdict w ≡ Ok tt
   pub start : w.start ≡ 0
   pub interval : w.interval ≤ 65535
   pub count : CountInRange w.count

@@ -1,9 +1,7 @@
 -- The texts of rules: the RECUR value of RFC 5545, section 3.3.10, in the words of request 2026-04. A text is a list of bytes.
 -- Assumes nothing.
-use Rattle.std.specs.Prelude.{ℕ, zero, suc, ◌+◌, ◌*◌, ◌≡◌, Bool, true, false, ◌||◌, List, [], ◌∷◌, ◌++◌, map, set, get_or, eqb, ℤ, pos, negsuc, if◌then◌else◌}
+use Rattle.std.specs.Prelude.{ℕ, zero, suc, ◌+◌, ◌*◌, ◌≡◌, Bool, true, false, ◌||◌, List, [], ◌∷◌, ◌++◌, map, set, get_or, eqb, ℤ, pos, negsuc, if◌then◌else◌, Option, Some, None}
 use Rattle.calendar.specs.Calendar.{leap, month_length, day_of_date}
-use Rattle.rule.specs.declared.rrule.Count.{Count}
-use Rattle.rule.specs.declared.rrule.Until.{Until}
 use Rattle.rule.specs.Instants.{instant}
 use Rattle.rule.specs.Raw.{Raw, raw, raw_lists}
 use Rattle.symbols.specs.Bytes.{bytes}
@@ -200,17 +198,17 @@ number_or none (number n) = n
 number_or none (numbers vs) = none
 number_or none (days ds) = none
 
-abbrev pub as_count : Value → Count
-as_count absent = Count.Absent
-as_count (number n) = Count.Times n
-as_count (numbers vs) = Count.Absent
-as_count (days ds) = Count.Absent
+abbrev pub as_count : Value → Option ℕ
+as_count absent = None
+as_count (number n) = Some n
+as_count (numbers vs) = None
+as_count (days ds) = None
 
-abbrev pub as_until : Value → Until
-as_until absent = Until.Absent
-as_until (number t) = Until.At t
-as_until (numbers vs) = Until.Absent
-as_until (days ds) = Until.Absent
+abbrev pub as_until : Value → Option ℕ
+as_until absent = None
+as_until (number t) = Some t
+as_until (numbers vs) = None
+as_until (days ds) = None
 
 abbrev pub as_list : Value → List ℤ
 as_list absent = []

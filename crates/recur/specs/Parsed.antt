@@ -1,8 +1,8 @@
 -- A text that is read and checked with a start.
 -- Assumes nothing.
-use Rattle.std.specs.Prelude.{ℕ, List}
-use Rattle.rule.specs.declared.rrule.Verdict.{Verdict}
-use Rattle.rule.specs.declared.rrule.Checked.{Checked}
+use Rattle.std.specs.Prelude.{ℕ, List, Ok, Err}
+use Rattle.rule.specs.Refusals.{Verdict}
+use Rattle.rule.specs.Filling.{Checked}
 use Rattle.rule.specs.Raw.{Raw, raw}
 use Rattle.rule.specs.Filling.{blank, checked}
 use Rattle.recur.specs.declared.Told.{Told}
@@ -14,8 +14,8 @@ abbrev pub with_start : ℕ → Raw → Raw
 with_start start w = raw w.freq w.interval w.count w.until w.wkst start w.lists
 
 abbrev pub told_by : Verdict → Told
-told_by (Verdict.Refused m) = Told.Refused m
-told_by Verdict.Accepted = Told.Accepted
+told_by (Err m) = Told.Refused m
+told_by (Ok tt) = Told.Accepted
 
 abbrev pub parsed_as : Checked → Parsed
 parsed_as c = record { told = told_by c.verdict; rule = c.rule }

@@ -1,9 +1,7 @@
 -- Texts with their answers: those of the request's page, its traps, and each way of writing.
 -- Assumes nothing.
-use Rattle.std.specs.Prelude.{ℕ, zero, suc, List, [], ◌∷◌, ◌++◌, ℤ, pos, negsuc}
+use Rattle.std.specs.Prelude.{ℕ, zero, suc, List, [], ◌∷◌, ◌++◌, ℤ, pos, negsuc, Some, None}
 use Prim.Native.String.{String}
-use Rattle.rule.specs.declared.rrule.Count.{Count}
-use Rattle.rule.specs.declared.rrule.Until.{Until}
 use Rattle.rule.specs.Raw.{RawLists, Raw, raw, raw_lists}
 use Rattle.symbols.specs.Bytes.{bytes}
 
@@ -101,7 +99,7 @@ abbrev pub sample : String → Raw → String → Sample
 sample text reads writes = record { text = bytes text; reads = reads; writes = bytes writes }
 
 abbrev pub daily : RawLists → Raw
-daily l = raw 3 1 Count.Absent Until.Absent 0 0 l
+daily l = raw 3 1 None None 0 0 l
 
 abbrev pub hour_list : List ℤ → RawLists
 hour_list l = raw_lists [] [] [] [] [] [] l [] [] []
@@ -111,29 +109,29 @@ unfoldable pub samples : List Sample
 samples =
     sample "FREQ=DAILY" (daily no_lists) "FREQ=DAILY" ∷
     sample "fReQ=dAiLy;BYDAY=mo" (daily (raw_lists [] [] [] [] (pos 0 ∷ []) (pos 0 ∷ []) [] [] [] [])) "FREQ=DAILY;BYDAY=MO" ∷
-    sample "COUNT=3;FREQ=DAILY" (raw 3 1 (Count.Times 3) Until.Absent 0 0 no_lists) "FREQ=DAILY;COUNT=3" ∷
-    sample "COUNT=10;FREQ=WEEKLY;INTERVAL=2" (raw 2 2 (Count.Times 10) Until.Absent 0 0 no_lists) "FREQ=WEEKLY;INTERVAL=2;COUNT=10" ∷
-    sample "FREQ=DAILY;INTERVAL=00065535" (raw 3 65535 Count.Absent Until.Absent 0 0 no_lists) "FREQ=DAILY;INTERVAL=65535" ∷
-    sample "FREQ=DAILY;INTERVAL=0" (raw 3 0 Count.Absent Until.Absent 0 0 no_lists) "FREQ=DAILY;INTERVAL=0" ∷
+    sample "COUNT=3;FREQ=DAILY" (raw 3 1 (Some 3) None 0 0 no_lists) "FREQ=DAILY;COUNT=3" ∷
+    sample "COUNT=10;FREQ=WEEKLY;INTERVAL=2" (raw 2 2 (Some 10) None 0 0 no_lists) "FREQ=WEEKLY;INTERVAL=2;COUNT=10" ∷
+    sample "FREQ=DAILY;INTERVAL=00065535" (raw 3 65535 None None 0 0 no_lists) "FREQ=DAILY;INTERVAL=65535" ∷
+    sample "FREQ=DAILY;INTERVAL=0" (raw 3 0 None None 0 0 no_lists) "FREQ=DAILY;INTERVAL=0" ∷
     sample "FREQ=DAILY;INTERVAL=000001" (daily no_lists) "FREQ=DAILY" ∷
-    sample "FREQ=DAILY;COUNT=1;UNTIL=19700101T000000Z" (raw 3 1 (Count.Times 1) (Until.At 0) 0 0 no_lists) "FREQ=DAILY;COUNT=1;UNTIL=19700101T000000Z" ∷
-    sample "UNTIL=99991231T235959Z;FREQ=SECONDLY" (raw 6 1 Count.Absent (Until.At 253402300799) 0 0 no_lists) "FREQ=SECONDLY;UNTIL=99991231T235959Z" ∷
-    sample "FREQ=YEARLY;UNTIL=20240229T120304Z" (raw 0 1 Count.Absent (Until.At 1709208184) 0 0 no_lists) "FREQ=YEARLY;UNTIL=20240229T120304Z" ∷
+    sample "FREQ=DAILY;COUNT=1;UNTIL=19700101T000000Z" (raw 3 1 (Some 1) (Some 0) 0 0 no_lists) "FREQ=DAILY;COUNT=1;UNTIL=19700101T000000Z" ∷
+    sample "UNTIL=99991231T235959Z;FREQ=SECONDLY" (raw 6 1 None (Some 253402300799) 0 0 no_lists) "FREQ=SECONDLY;UNTIL=99991231T235959Z" ∷
+    sample "FREQ=YEARLY;UNTIL=20240229T120304Z" (raw 0 1 None (Some 1709208184) 0 0 no_lists) "FREQ=YEARLY;UNTIL=20240229T120304Z" ∷
     sample "FREQ=DAILY;BYHOUR=008" (daily (hour_list (pos 8 ∷ []))) "FREQ=DAILY;BYHOUR=8" ∷
     sample "FREQ=DAILY;BYHOUR=999" (daily (hour_list (pos 999 ∷ []))) "FREQ=DAILY;BYHOUR=999" ∷
     sample "FREQ=DAILY;BYHOUR=9,8" (daily (hour_list (pos 9 ∷ pos 8 ∷ []))) "FREQ=DAILY;BYHOUR=9,8" ∷
     sample "FREQ=DAILY;BYHOUR=8,8" (daily (hour_list (pos 8 ∷ pos 8 ∷ []))) "FREQ=DAILY;BYHOUR=8,8" ∷
     sample "FREQ=DAILY;BYMONTHDAY=+1,-1,-0" (daily (raw_lists [] (pos 1 ∷ negsuc 0 ∷ pos 0 ∷ []) [] [] [] [] [] [] [] [])) "FREQ=DAILY;BYMONTHDAY=1,-1,0" ∷
-    sample "byday=1mo;freq=monthly;interval=001;wkst=mo" (raw 1 1 Count.Absent Until.Absent 0 0 (raw_lists [] [] [] [] (pos 1 ∷ []) (pos 0 ∷ []) [] [] [] []))
+    sample "byday=1mo;freq=monthly;interval=001;wkst=mo" (raw 1 1 None None 0 0 (raw_lists [] [] [] [] (pos 1 ∷ []) (pos 0 ∷ []) [] [] [] []))
     "FREQ=MONTHLY;BYDAY=1MO" ∷
     sample "FREQ=MONTHLY;BYDAY=001MO,-2FR;WKST=SU"
-    (raw 1 1 Count.Absent Until.Absent 6 0 (raw_lists [] [] [] [] (pos 1 ∷ negsuc 1 ∷ []) (pos 0 ∷ pos 4 ∷ []) [] [] [] []))
+    (raw 1 1 None None 6 0 (raw_lists [] [] [] [] (pos 1 ∷ negsuc 1 ∷ []) (pos 0 ∷ pos 4 ∷ []) [] [] [] []))
     "FREQ=MONTHLY;WKST=SU;BYDAY=1MO,-2FR" ∷
     sample "FREQ=YEARLY;INTERVAL=2;BYMONTH=1;BYDAY=SU;BYHOUR=8,9;BYMINUTE=30"
-    (raw 0 2 Count.Absent Until.Absent 0 0 (raw_lists (pos 1 ∷ []) [] [] [] (pos 0 ∷ []) (pos 6 ∷ []) (pos 8 ∷ pos 9 ∷ []) (pos 30 ∷ []) [] []))
+    (raw 0 2 None None 0 0 (raw_lists (pos 1 ∷ []) [] [] [] (pos 0 ∷ []) (pos 6 ∷ []) (pos 8 ∷ pos 9 ∷ []) (pos 30 ∷ []) [] []))
     "FREQ=YEARLY;INTERVAL=2;BYMONTH=1;BYDAY=SU;BYHOUR=8,9;BYMINUTE=30" ∷
     sample "bysetpos=-1;bysecond=0;byminute=59;byhour=23;byweekno=-53;byyearday=366;bymonthday=31;bymonth=12;wkst=su;freq=yearly"
-    (raw 0 1 Count.Absent Until.Absent 6 0
+    (raw 0 1 None None 6 0
     (raw_lists (pos 12 ∷ []) (pos 31 ∷ []) (pos 366 ∷ []) (negsuc 52 ∷ []) [] [] (pos 23 ∷ []) (pos 59 ∷ []) (pos 0 ∷ []) (negsuc 0 ∷ [])))
     "FREQ=YEARLY;WKST=SU;BYMONTH=12;BYMONTHDAY=31;BYYEARDAY=366;BYWEEKNO=-53;BYHOUR=23;BYMINUTE=59;BYSECOND=0;BYSETPOS=-1" ∷
     []

@@ -1,12 +1,10 @@
 -- How a rule is written: one text, its parts in the record's order, in capitals, with what goes without saying left out.
 -- Assumes nothing.
-use Rattle.std.specs.Prelude.{ℕ, zero, suc, ◌+◌, ◌/◌, ◌%◌, Bool, true, false, List, [], ◌∷◌, ◌++◌, map, length, eqb, leb, ltb, ℤ, pos, negsuc, if◌then◌else◌}
+use Rattle.std.specs.Prelude.{ℕ, zero, suc, ◌+◌, ◌/◌, ◌%◌, Bool, true, false, List, [], ◌∷◌, ◌++◌, map, length, eqb, leb, ltb, ℤ, pos, negsuc, if◌then◌else◌, Option, Some, None, Ok, Err}
 use Rattle.std.proofs.lemmas.List.Edits.{sets}
 use Rattle.calendar.specs.Calendar.{date_of}
 use Rattle.calendar.specs.declared.utils.Date.{Date}
-use Rattle.rule.specs.declared.rrule.Count.{Count}
-use Rattle.rule.specs.declared.rrule.Until.{Until}
-use Rattle.rule.specs.declared.rrule.Verdict.{Verdict}
+use Rattle.rule.specs.Refusals.{Verdict}
 use Rattle.rule.specs.Instants.{second, day_of, hour_of, minute_of, second_of}
 use Rattle.rule.specs.Raw.{RawLists, Raw}
 use Rattle.rule.specs.Refusals.{verdict}
@@ -92,13 +90,13 @@ abbrev pub unless : Bool → Part → List Part
 unless true p = []
 unless false p = p ∷ []
 
-abbrev pub count_part : Count → List Part
-count_part Count.Absent = []
-count_part (Count.Times n) = both 2 (number n) ∷ []
+abbrev pub count_part : Option ℕ → List Part
+count_part None = []
+count_part (Some n) = both 2 (number n) ∷ []
 
-abbrev pub until_part : Until → List Part
-until_part Until.Absent = []
-until_part (Until.At t) = both 3 (number t) ∷ []
+abbrev pub until_part : Option ℕ → List Part
+until_part None = []
+until_part (Some t) = both 3 (number t) ∷ []
 
 abbrev pub list_part : ℕ → List ℤ → List Part
 list_part i [] = []
@@ -153,7 +151,7 @@ fitted needed room = if leb needed room then Written.Text needed else Written.Sh
 
 unfoldable pub written_of : Raw → ℕ → Written
 unfolding text_of
-written_of w room = elim (verdict w) [ Verdict.Refused n ↦ Written.Refused n | Verdict.Accepted ↦ fitted (length (text_of w)) room ]
+written_of w room = elim (verdict w) [ Err n ↦ Written.Refused n | Ok tt ↦ fitted (length (text_of w)) room ]
 
 -- what stands in the buffer then: the text in its first bytes; every byte as it was where nothing is written
 abbrev pub left_by : Written → List ℕ → List ℕ → List ℕ

@@ -1,7 +1,7 @@
 // The texts of rules (RECUR of RFC 5545): the types of their readers and of the writer, and no function. The code is in the crates from spelling to display.
 #![tactic(auto)]
 
-use rule::rrule::{Count, Refusal, Rule, Until};
+use rule::rrule::{Refusal, Rule};
 
 // Whether a symbol is whole, and the place where its reader stopped.
 #[derive(Clone, Copy)]
@@ -40,8 +40,8 @@ pub struct ReachedDay {
 pub struct Outline {
     pub freq: u8,
     pub interval: u16,
-    pub count: Count,
-    pub until: Until,
+    pub count: Option<u32>,
+    pub until: Option<u64>,
     pub wkst: u8,
     pub bymonth: usize,
     pub bymonthday: usize,

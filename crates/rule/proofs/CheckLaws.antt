@@ -1,6 +1,7 @@
 -- The check from its parts: the verdict row by row, and the answer.
 -- Assumes nothing.
-use mathlib.Core.Path.{◌≡◌, refl, ap, ◌∙◌}
+use Rattle.std.specs.Prelude.{Ok, Err}
+use mathlib.Core.Path.{◌≡◌, refl, ap, sym, ◌∙◌}
 use mathlib.Core.Bool.{Bool, true, false, not, ◌&&◌, ◌||◌}
 use mathlib.Core.List.{List, [], ◌∷◌}
 use Prim.Native.Nat.{ℕ, suc, ◌≤◌}
@@ -11,7 +12,7 @@ use lib.IntN.{ℤ}
 use borrow.Author.Tests.{eqb-false, ne_eqb, ltb-false}
 use Rattle.rule.specs.declared.rrule.Frequency.{Frequency}
 use Rattle.rule.specs.declared.rrule.Refusal.{Refusal}
-use Rattle.rule.specs.declared.rrule.Verdict.{Verdict}
+use Rattle.rule.specs.Refusals.{Verdict}
 use Rattle.rule.specs.declared.rrule.Rule.{Rule}
 use Rattle.rule.specs.Instants.{last_instant}
 use Rattle.rule.specs.Raw.{RawLists, Raw}
@@ -32,18 +33,18 @@ unfolding or_refused
 judged w v [] = v
 judged w v (n ∷ ns) = judged w (or_refused v n (applies n w)) ns
 
-refused_stays : (w : Raw) (m : Refusal) (ns : List Refusal) → judged w (Verdict.Refused m) ns ≡ Verdict.Refused m
+refused_stays : (w : Raw) (m : Refusal) (ns : List Refusal) → judged w (Err m) ns ≡ Err m
 unfolding judged or_refused
 refused_stays w m [] = refl
 refused_stays w m (n ∷ ns) = refused_stays w m ns
 
-first_judged : (w : Raw) (ns : List Refusal) → judged w Verdict.Accepted ns ≡ first_of (λ (n : Refusal). applies n w) ns
+first_judged : (w : Raw) (ns : List Refusal) → judged w (Ok tt) ns ≡ first_of (λ (n : Refusal). applies n w) ns
 unfolding judged or_refused first_of
 first_judged w [] = refl
 first_judged w (n ∷ ns) = go (applies n w) (first_judged w ns)
   where
-    go : (t : Bool) → judged w Verdict.Accepted ns ≡ first_of (λ (m : Refusal). applies m w) ns
-        → judged w (or_refused Verdict.Accepted n t) ns ≡ elim t [ true ↦ Verdict.Refused n | false ↦ first_of (λ (m : Refusal). applies m w) ns ]
+    go : (t : Bool) → judged w (Ok tt) ns ≡ first_of (λ (m : Refusal). applies m w) ns
+        → judged w (or_refused (Ok tt) n t) ns ≡ elim t [ true ↦ Err n | false ↦ first_of (λ (m : Refusal). applies m w) ns ]
     go true e = refused_stays w n ns
     go false e = e
 
@@ -52,7 +53,7 @@ pub record Judged (w : Raw) (v : Verdict) (ns : List Refusal) : Type 0 where
   pub is : judged w v ns ≡ verdict w
 
 -- before the first row, over a row, and behind the last
-pub no_row : (w : Raw) → Judged w Verdict.Accepted refusals
+pub no_row : (w : Raw) → Judged w (Ok tt) refusals
 unfolding verdict
 no_row w = record { is = first_judged w refusals }
 
@@ -79,41 +80,28 @@ pub list_misplaced_by : (freq : ℕ) (l : RawLists) {m : Bool}
     → m ≡ list_misplaced freq l
 list_misplaced_by freq l e = e ∙ rw (lacks_is l.byweekno, lacks_is l.byyearday, lacks_is l.bymonthday)
 
-pub start_in_range : (w : Raw) → verdict w ≡ Verdict.Accepted → w.start ≤ last_instant
+pub start_in_range : (w : Raw) → verdict w ≡ Ok tt → w.start ≤ last_instant
 start_in_range w e = ltb-false last_instant w.start ((none_given w).0 e Refusal.StartOut)
 
-pub wkst_in_range : (w : Raw) → verdict w ≡ Verdict.Accepted → w.wkst ≤ 6
+pub wkst_in_range : (w : Raw) → verdict w ≡ Ok tt → w.wkst ≤ 6
 wkst_in_range w e = ltb-false 6 w.wkst ((none_given w).0 e Refusal.WeekStartAbove)
 
-pub interval_above : (w : Raw) → verdict w ≡ Verdict.Accepted → 1 ≤ w.interval
+pub interval_above : (w : Raw) → verdict w ≡ Ok tt → 1 ≤ w.interval
 interval_above w e =
     let n : w.interval ≡ 0 → ⊥ = eqb-false w.interval 0 (neither (eqb w.interval 0) _ ((none_given w).0 e Refusal.Nought)).0 in
     omega arith
 
-pub count_above : (w : Raw) → verdict w ≡ Verdict.Accepted → count_nought w.count ≡ false
+pub count_above : (w : Raw) → verdict w ≡ Ok tt → count_nought w.count ≡ false
 count_above w e = (neither (eqb w.interval 0) (count_nought w.count) ((none_given w).0 e Refusal.Nought)).1
 
-refused_is : (v : Verdict) (r : Rule) (n : Refusal) → v ≡ Verdict.Refused n → record { verdict = v; rule = blank } ≡ answers v r
-unfolding answers
-refused_is v r n e = rw e
+pub refused : (w : Raw) (v : Verdict) (n : Refusal) → v ≡ verdict w → v ≡ Err n → Err n ≡ checked w
+unfolding checked answers
+refused w v n e h = ap (λ (x : Verdict). answers x (fill (given w))) (sym h ∙ e)
 
-accepted_is : (v : Verdict) (r : Rule) → v ≡ Verdict.Accepted → record { verdict = v; rule = r } ≡ answers v r
-unfolding answers
-accepted_is v r e = rw e
-
-pub refused : (w : Raw) (v : Verdict) (b : Rule) (n : Refusal) → v ≡ verdict w → v ≡ Verdict.Refused n → b ≡ blank
-    → record { verdict = v; rule = b } ≡ checked w
-unfolding checked
-refused w v b n e h k =
-    ap (λ (x : Rule). record { verdict = v; rule = x }) k
-    ∙ refused_is v (fill (given w)) n h
-    ∙ ap (λ (x : Verdict). answers x (fill (given w))) e
-
-pub accepted : (w : Raw) (v : Verdict) (f : Frequency) (g r : Rule) → v ≡ verdict w → v ≡ Verdict.Accepted → f ≡ frequency w.freq
-    → g ≡ given_as f w.interval w.count w.until w.wkst w.start w.lists → r ≡ fill g → record { verdict = v; rule = r } ≡ checked w
-unfolding checked given
+pub accepted : (w : Raw) (v : Verdict) (f : Frequency) (g r : Rule) → v ≡ verdict w → v ≡ Ok tt → f ≡ frequency w.freq
+    → g ≡ given_as f w.interval w.count w.until w.wkst w.start w.lists → r ≡ fill g → Ok r ≡ checked w
+unfolding checked given answers
 accepted w v f g r e h ef eg er =
-    ap (λ (x : Rule). record { verdict = v; rule = x })
+    ap (λ (x : Rule). Ok x)
     (er ∙ ap fill (eg ∙ ap (λ (x : Frequency). given_as x w.interval w.count w.until w.wkst w.start w.lists) ef))
-    ∙ accepted_is v (fill (given w)) h
-    ∙ ap (λ (x : Verdict). answers x (fill (given w))) e
+    ∙ ap (λ (x : Verdict). answers x (fill (given w))) (sym h ∙ e)

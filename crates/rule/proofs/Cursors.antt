@@ -1,7 +1,7 @@
 -- What 20 refuses, and that a good record's fresh cursor is running; good cursors stay good, their number fits, and the run has one answer in both
 -- its forms.
 -- Assumes nothing.
-use Rattle.std.specs.Prelude.{if◌then◌else◌}
+use Rattle.std.specs.Prelude.{if◌then◌else◌, Some}
 use Prim.Native.Nat.{ℕ, zero, suc, ◌+◌, ◌-◌, ◌*◌, ◌≤◌}
 use mathlib.Core.Path.{◌≡◌, refl, sym, ◌∙◌, ap}
 use mathlib.Core.Logic.{⊎_elim}
@@ -21,7 +21,6 @@ use Rattle.machine.specs.Calls.{chain}
 use Rattle.machine.specs.Claims.{Lawful}
 use Rattle.machine.proofs.Theorems.{answers, ended_returns, accepted, fresh_well_formed, stays_well_formed}
 use Rattle.machine.proofs.Theorems as machine
-use Rattle.rule.specs.declared.rrule.Count.{Count}
 use Rattle.rule.specs.declared.rrule.Refusal.{Refusal}
 use Rattle.rule.specs.declared.rrule.Rule.{Rule}
 use Rattle.rule.specs.Instants.{second, range_end}
@@ -57,7 +56,7 @@ pub zero_refused : ZeroRefused
 unfolding as_raw
 zero_refused r z =
     rows_refused r Refusal.Nought
-    (⊎_elim (λ (e : r.interval ≡ 0). rw e) (λ (e : r.count ≡ Count.Times 0). rw e (or-true (eqb r.interval 0))) z)
+    (⊎_elim (λ (e : r.interval ≡ 0). rw e) (λ (e : r.count ≡ Some 0). rw e (or-true (eqb r.interval 0))) z)
 
 pub both_refused : BothRefused
 unfolding as_raw
@@ -73,7 +72,7 @@ fresh_runs r good =
     sym (fresh_by r false false (reached_at_once r.count ∙ good_count r good)
     (ne_eqb r.interval 0 (λ (e : r.interval ≡ 0). omega (arith, good_interval r good))))
 
-not_nought : (n : ℕ) → count_nought (Count.Times n) ≡ false → 1 ≤ n
+not_nought : (n : ℕ) → count_nought (Some n) ≡ false → 1 ≤ n
 not_nought n h = let e : n ≡ 0 → ⊥ = eqb-false n 0 h in omega arith
 
 pub count_not_at_once : CountNotAtOnce

@@ -1,5 +1,6 @@
 -- Demand 3, from the machine's theorem and the laws of the rule's own periods.
 -- Assumes nothing.
+use Rattle.std.specs.Prelude.{Option, Some, None, Ok, Err}
 use Prim.Native.Nat.{ℕ, suc, ◌-◌, ◌*◌, ◌≤◌, ◌<◌}
 use mathlib.Core.Path.{◌≡◌, refl, sym, ◌∙◌, ap, subst}
 use mathlib.Core.Logic.{inl, inr, ⊎_elim}
@@ -16,9 +17,7 @@ use Rattle.machine.specs.Run.{Call}
 use Rattle.machine.specs.Promises.{All, Says}
 use Rattle.machine.specs.Promises.{Lists as MachineLists}
 use Rattle.machine.proofs.Theorems.{chain_lists}
-use Rattle.rule.specs.declared.rrule.Count.{Count}
-use Rattle.rule.specs.declared.rrule.Until.{Until}
-use Rattle.rule.specs.declared.rrule.Verdict.{Verdict}
+use Rattle.rule.specs.Refusals.{Verdict}
 use Rattle.rule.specs.declared.rrule.Rule.{Rule}
 use Rattle.rule.specs.Instants.{second, instant, last_instant, range_end}
 use Rattle.rule.specs.Refusals.{verdict}
@@ -41,7 +40,7 @@ both_left : (a b : Bool) → a && b ≡ true → a ≡ true
 both_left true b e = refl
 both_left false b e = e
 
-pub passes : (r : Rule) → yielded r ≡ true → verdict (as_raw r) ≡ Verdict.Accepted
+pub passes : (r : Rule) → yielded r ≡ true → verdict (as_raw r) ≡ Ok tt
 unfolding yielded
 passes r e = accepting (verdict (as_raw r)) (both_left _ _ e)
 
@@ -61,13 +60,13 @@ good_interval r e = interval_above (as_raw r) (passes r e)
 back : (s : ℕ) → 719162 * 86400 ≤ s → second (instant s) ≡ s
 back s h = omega arith
 
-not_after : (u : Until) (s : ℕ) → 719162 * 86400 ≤ s → AtMost (until_of u) s → NotAfter u (instant s)
-not_after Until.Absent s h p = tt
-not_after (Until.At t) s h p = omega arith
+not_after : (u : Option ℕ) (s : ℕ) → 719162 * 86400 ≤ s → AtMost (until_of u) s → NotAfter u (instant s)
+not_after None s h p = tt
+not_after (Some t) s h p = omega arith
 
-at_most : (u : Until) (t : ℕ) → NotAfter u t → AtMost (until_of u) (second t)
-at_most Until.Absent t p = tt
-at_most (Until.At u) t p = omega arith
+at_most : (u : Option ℕ) (t : ℕ) → NotAfter u t → AtMost (until_of u) (second t)
+at_most None t p = tt
+at_most (Some u) t p = omega arith
 
 module _ (r : Rule) (good : yielded r ≡ true) where
   abbrev one : 1 ≤ r.interval
@@ -139,9 +138,9 @@ length_instants : (xs : List ℕ) → length (map instant xs) ≡ length xs
 length_instants [] = refl
 length_instants (x ∷ xs) = ap suc (length_instants xs)
 
-times_of : (c : Count) (n : ℕ) → count_of c ≡ present n → c ≡ Count.Times n
-times_of Count.Absent n e = absurd (let z : ◌≡◌ {A = ℕ} 0 1 = cc in omega arith)
-times_of (Count.Times m) n e = let f : m ≡ n = cc in ap Count.Times f
+times_of : (c : Option ℕ) (n : ℕ) → count_of c ≡ present n → c ≡ Some n
+times_of None n e = absurd (let z : ◌≡◌ {A = ℕ} 0 1 = cc in omega arith)
+times_of (Some m) n e = let f : m ≡ n = cc in ap Some f
 
 module _ (r : Rule) (good : yielded r ≡ true) (calls : List (Call ℕ)) where
   abbrev L : List ℕ
@@ -213,17 +212,17 @@ pub never_by_interval : NeverByInterval
 never_by_interval r good calls = never_interval r good calls
 
 pub demand_three : DemandThree
-demand_three w e calls = good_records_list (checked w).rule ((good_records (checked w).rule).1 (w, record { accepted = e; record_is = refl })) calls
+demand_three w r e calls = good_records_list r ((good_records r).1 (w, e)) calls
 
 -- INTERVAL follows from the check, and with it demand 3 as it was said before
-pub answered_verdict : (v : Verdict) (q : Rule) → (answers v q).verdict ≡ v
+pub answered_verdict : (v : Verdict) (q r : Rule) → answers v q ≡ Ok r → v ≡ Ok tt
 unfolding answers
-answered_verdict Verdict.Accepted q = refl
-answered_verdict (Verdict.Refused n) q = refl
+answered_verdict (Ok tt) q r e = refl
+answered_verdict (Err n) q r e = absurd (let z : ◌≡◌ {A = ℕ} 0 1 = cc in omega arith)
 
 pub interval_follows : IntervalFollows
 unfolding checked
-interval_follows w e = interval_above w (sym (answered_verdict (verdict w) (fill (given w))) ∙ e)
+interval_follows w r e = interval_above w (answered_verdict (verdict w) (fill (given w)) r e)
 
 pub demand_three_before : DemandThreeBefore
-demand_three_before w e one calls = demand_three w e calls
+demand_three_before w r e one calls = demand_three w r e calls

@@ -1,6 +1,6 @@
 -- Entries of a list: moved up, they keep their order, their slots and their zero; and how the tests of a list go on from one entry to the next.
 -- Assumes nothing.
-use Rattle.std.specs.Prelude.{if◌then◌else◌}
+use Rattle.std.specs.Prelude.{if◌then◌else◌, Option, Some, None}
 use mathlib.Core.Path.{◌≡◌, refl, ap, sym, ◌∙◌}
 use mathlib.Core.Bool.{Bool, true, false, not, ◌&&◌, ◌||◌, and-true}
 use mathlib.Core.List.{List, [], ◌∷◌}
@@ -14,7 +14,6 @@ use lib.IntN.{ℤ, pos, negsuc, ◌+ℤ◌}
 use lib.Signed.{mag, lt_z}
 use borrow.Author.Tests.{leb-true, lt-ltb, le-ltb, ne_eqb, ltb-true, ltb-false}
 use Rattle.rule.specs.declared.rrule.Range.{Range}
-use Rattle.rule.specs.declared.rrule.Slot.{Slot}
 use Rattle.rule.specs.Lists.{within, zeros, slot_of, nths, weekdays, pair_slot, is_empty, mark}
 use Rattle.rule.specs.Entries.{shift, Moved, slot_at, pair_at, pair_below_at, marks}
 use Rattle.rule.specs.Raw.{entries, pairs}
@@ -185,17 +184,17 @@ pub empty_done : (found : Bool) (s : List Bool) (i : ℕ) → length s ≤ i →
 unfolding is_empty
 empty_done found s i h = rw (drop_of_length-le s h) (and-true (not found))
 
-pub length_mark : (s : List Bool) (e : Slot) → length (mark s e) ≡ length s
-length_mark s (Slot.At i) = length-set s i true
-length_mark s Slot.Outside = refl
+pub length_mark : (s : List Bool) (e : Option ℕ) → length (mark s e) ≡ length s
+length_mark s (Some i) = length-set s i true
+length_mark s None = refl
 
 -- the slots of BYDAY's halves
-pub slot_high : (g : Range) (u i : ℕ) → g.negatives ≤ 366 → g.positives ≤ 366 → slot_at g u ≡ Slot.At i → i < 1000
+pub slot_high : (g : Range) (u i : ℕ) → g.negatives ≤ 366 → g.positives ≤ 366 → slot_at g u ≡ Some i → i < 1000
 unfolding slot_at
 slot_high g u i h k e = go (ltb u 32768) (leb (32768 - u) g.negatives) (eqb u 32768) g.zeroin (leb (u - 32768) g.positives) refl refl refl refl refl e
   where
     go : (a b c d f : Bool) → ltb u 32768 ≡ a → leb (32768 - u) g.negatives ≡ b → eqb u 32768 ≡ c → g.zeroin ≡ d → leb (u - 32768) g.positives ≡ f
-        → (if a then within b (g.negatives - (32768 - u)) else if c then within d g.negatives else within f (g.negatives + zeros g + (u - 32768 - 1))) ≡ Slot.At i → i < 1000
+        → (if a then within b (g.negatives - (32768 - u)) else if c then within d g.negatives else within f (g.negatives + zeros g + (u - 32768 - 1))) ≡ Some i → i < 1000
     go true true c d f p q r s t x = let y : g.negatives - (32768 - u) ≡ i = cc in omega arith
     go true false c d f p q r s t x = absurd (let z : ◌≡◌ {A = ℕ} 0 1 = cc in omega arith)
     go false b true true f p q r s t x = let y : g.negatives ≡ i = cc in omega arith

@@ -1,6 +1,6 @@
 -- Filling in: where it changes nothing, and that twice is once.
 -- Assumes nothing.
-use Rattle.std.specs.Prelude.{if◌then◌else◌}
+use Rattle.std.specs.Prelude.{if◌then◌else◌, Option, Some, None}
 use mathlib.Core.Path.{◌≡◌, refl, ap, sym, ◌∙◌}
 use mathlib.Core.Bool.{Bool, true, false, not, ◌&&◌, ◌||◌, and-true}
 use mathlib.Core.List.{List, [], ◌∷◌}
@@ -14,7 +14,6 @@ use Rattle.calendar.specs.Calendar.{leap, date_of}
 use Rattle.calendar.proofs.Dates.{date_is}
 use Rattle.calendar.proofs.Months.{at_most_31}
 use Rattle.rule.specs.declared.rrule.Frequency.{Frequency}
-use Rattle.rule.specs.declared.rrule.Slot.{Slot}
 use Rattle.rule.specs.declared.rrule.Rule.{Rule}
 use Rattle.rule.specs.Instants.{second}
 use Rattle.rule.specs.Lists.{is_empty, mark}
@@ -38,11 +37,11 @@ same_marked (true ∷ bs) i h e = absurd (let z : ◌≡◌ {A = ℕ} 0 1 = cc i
 same_marked (false ∷ bs) zero h e = refl
 same_marked (false ∷ bs) (suc i) h e = same_marked bs i (omega arith) e
 
-same_taken : (b : Bool) (s : List Bool) (i : ℕ) → i < length s → same_set (takes b s (Slot.At i)) s ≡ not (b && is_empty s)
+same_taken : (b : Bool) (s : List Bool) (i : ℕ) → i < length s → same_set (takes b s (Some i)) s ≡ not (b && is_empty s)
 unfolding takes
 same_taken true s i h = go (is_empty s) refl
   where
-    go : (t : Bool) → is_empty s ≡ t → same_set (if t then mark s (Slot.At i) else s) s ≡ not t
+    go : (t : Bool) → is_empty s ≡ t → same_set (if t then mark s (Some i) else s) s ≡ not t
     go true e = same_marked s i h e
     go false e = same_itself s
 same_taken false s i h = same_itself s
@@ -51,14 +50,14 @@ same_taken false s i h = same_itself s
 abbrev pub filled_by : Rule → ℕ → ℕ → Date → Bool → Rule
 filled_by r s n date free =
     rule_of r.freq r.interval r.count r.until r.wkst r.start
-    (takes (free && eqb n 0) r.bymonth (Slot.At (date.month - 1)))
-    (takes (free && (eqb n 0 || eqb n 1)) r.bymonthday (Slot.At (date.day + 30)))
+    (takes (free && eqb n 0) r.bymonth (Some (date.month - 1)))
+    (takes (free && (eqb n 0 || eqb n 1)) r.bymonthday (Some (date.day + 30)))
     r.byyearday
     r.byweekno
-    (takes (free && eqb n 2) r.byday (Slot.At (371 + s / 86400 % 7)))
-    (takes (ltb n 4) r.byhour (Slot.At (s % 86400 / 3600)))
-    (takes (ltb n 5) r.byminute (Slot.At (s % 3600 / 60)))
-    (takes (ltb n 6) r.bysecond (Slot.At (s % 60)))
+    (takes (free && eqb n 2) r.byday (Some (371 + s / 86400 % 7)))
+    (takes (ltb n 4) r.byhour (Some (s % 86400 / 3600)))
+    (takes (ltb n 5) r.byminute (Some (s % 3600 / 60)))
+    (takes (ltb n 6) r.bysecond (Some (s % 60)))
     r.bysetpos
 
 pub filled_by_lem : (r : Rule) → filled_by r (second r.start) (frequency_number r.freq) (date_of (second r.start / 86400)) (no_days r) ≡ fill r
@@ -120,11 +119,11 @@ unfilled_is r z =
     ∙ none_takes (no_days r && ltb n 3) (ltb n 4 && is_empty r.byhour) (ltb n 5 && is_empty r.byminute) (ltb n 6 && is_empty r.bysecond))
 
 -- a set that took an entry takes nothing more, where the second test is no wider than the first
-mark_twice : (s : List Bool) (e : Slot) → mark (mark s e) e ≡ mark s e
-mark_twice s (Slot.At i) = set-set s i true true
-mark_twice s Slot.Outside = refl
+mark_twice : (s : List Bool) (e : Option ℕ) → mark (mark s e) e ≡ mark s e
+mark_twice s (Some i) = set-set s i true true
+mark_twice s None = refl
 
-pub empty_before : (b : Bool) (s : List Bool) (e : Slot) → is_empty (takes b s e) ≡ true → is_empty s ≡ true
+pub empty_before : (b : Bool) (s : List Bool) (e : Option ℕ) → is_empty (takes b s e) ≡ true → is_empty s ≡ true
 unfolding takes
 empty_before true s e h = go (is_empty s) refl h
   where
@@ -133,7 +132,7 @@ empty_before true s e h = go (is_empty s) refl h
     go false p q = q
 empty_before false s e h = h
 
-take_again : (b c : Bool) (s : List Bool) (e : Slot) → (c ≡ true → b ≡ true) → takes c (takes b s e) e ≡ takes b s e
+take_again : (b c : Bool) (s : List Bool) (e : Option ℕ) → (c ≡ true → b ≡ true) → takes c (takes b s e) e ≡ takes b s e
 take_again b false s e h = take_no false (takes b s e) e refl
 take_again b true s e h = rw (h refl) (go (is_empty s) (is_empty (mark s e)) refl refl)
   where
@@ -154,13 +153,13 @@ refill : (r : Rule) (s n : ℕ) (date : Date) (free again : Bool) → (again ≡
     → filled_by (filled_by r s n date free) s n date again ≡ filled_by r s n date free
 refill r s n date free again h =
     rw (
-      take_again (free && eqb n 0) (again && eqb n 0) r.bymonth (Slot.At (date.month - 1)) (narrower free again (eqb n 0) h),
-      take_again (free && (eqb n 0 || eqb n 1)) (again && (eqb n 0 || eqb n 1)) r.bymonthday (Slot.At (date.day + 30))
+      take_again (free && eqb n 0) (again && eqb n 0) r.bymonth (Some (date.month - 1)) (narrower free again (eqb n 0) h),
+      take_again (free && (eqb n 0 || eqb n 1)) (again && (eqb n 0 || eqb n 1)) r.bymonthday (Some (date.day + 30))
           (narrower free again (eqb n 0 || eqb n 1) h),
-      take_again (free && eqb n 2) (again && eqb n 2) r.byday (Slot.At (371 + s / 86400 % 7)) (narrower free again (eqb n 2) h),
-      take_again (ltb n 4) (ltb n 4) r.byhour (Slot.At (s % 86400 / 3600)) (λ e. e),
-      take_again (ltb n 5) (ltb n 5) r.byminute (Slot.At (s % 3600 / 60)) (λ e. e),
-      take_again (ltb n 6) (ltb n 6) r.bysecond (Slot.At (s % 60)) (λ e. e),
+      take_again (free && eqb n 2) (again && eqb n 2) r.byday (Some (371 + s / 86400 % 7)) (narrower free again (eqb n 2) h),
+      take_again (ltb n 4) (ltb n 4) r.byhour (Some (s % 86400 / 3600)) (λ e. e),
+      take_again (ltb n 5) (ltb n 5) r.byminute (Some (s % 3600 / 60)) (λ e. e),
+      take_again (ltb n 6) (ltb n 6) r.bysecond (Some (s % 60)) (λ e. e),
     )
 
 -- both of two tests passed
@@ -173,7 +172,7 @@ unfolding no_days
 no_days_before r s n date free h =
     let a = both (is_empty r.byweekno) _ h in
     let b = both (is_empty r.byyearday) _ a.1 in
-    let c = both (is_empty (takes (free && (eqb n 0 || eqb n 1)) r.bymonthday (Slot.At (date.day + 30)))) _ b.1 in
+    let c = both (is_empty (takes (free && (eqb n 0 || eqb n 1)) r.bymonthday (Some (date.day + 30)))) _ b.1 in
     rw (a.0, b.0, empty_before _ _ _ c.0, empty_before _ _ _ c.1)
 
 pub fill_once : FillOnce

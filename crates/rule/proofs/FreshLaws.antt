@@ -1,5 +1,6 @@
 -- A fresh cursor, by cases.
 -- Assumes nothing.
+use Rattle.std.specs.Prelude.{Option, Some, None}
 use Prim.Native.Nat.{ℕ, zero, suc}
 use mathlib.Core.Path.{◌≡◌, refl, ap, sym, ◌∙◌}
 use mathlib.Core.Bool.{Bool, true, false}
@@ -9,7 +10,6 @@ use borrow.Author.Tests.{ne_eqb}
 use Rattle.machine.specs.declared.Cause.{Cause}
 use Rattle.machine.specs.declared.State.{State}
 use Rattle.machine.specs.Given.{reaches}
-use Rattle.rule.specs.declared.rrule.Count.{Count}
 use Rattle.rule.specs.declared.rrule.Rule.{Rule}
 use Rattle.rule.specs.Refusals.{count_nought}
 use Rattle.rule.specs.Run.{count_of, start_in, fresh_of}
@@ -28,6 +28,6 @@ zero_is : (n : ℕ) → eqb 0 n ≡ eqb n 0
 zero_is zero = refl
 zero_is (suc n) = ne_eqb 0 (suc n) (λ (e : 0 ≡ suc n). omega arith) ∙ sym (ne_eqb (suc n) 0 (λ (e : suc n ≡ 0). omega arith))
 
-pub reached_at_once : (c : Count) → reaches (count_of c) 0 ≡ count_nought c
-reached_at_once Count.Absent = refl
-reached_at_once (Count.Times n) = zero_is n
+pub reached_at_once : (c : Option ℕ) → reaches (count_of c) 0 ≡ count_nought c
+reached_at_once None = refl
+reached_at_once (Some n) = zero_is n

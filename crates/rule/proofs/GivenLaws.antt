@@ -1,5 +1,6 @@
 -- Lists whose entries lie in their ranges and rise are read back from their sets.
 -- Assumes nothing.
+use Rattle.std.specs.Prelude.{Option, Some, None}
 use mathlib.Core.Path.{◌≡◌, refl, ap, sym, ◌∙◌, subst}
 use mathlib.Core.Bool.{Bool, true, false, ◌||◌}
 use mathlib.Core.List.{List, [], ◌∷◌, map}
@@ -12,7 +13,6 @@ use lib.Signed.{lt_z}
 use borrow.Author.Tests.{eqb-true, eqb-false, ne_eqb, ltb-true}
 use Rattle.machine.specs.Rising.{Rises}
 use Rattle.rule.specs.declared.rrule.Range.{Range}
-use Rattle.rule.specs.declared.rrule.Slot.{Slot}
 use Rattle.rule.specs.Lists.{slots, slot_of, nths, weekdays, pair_slot, flags, some_at, set_of}
 use Rattle.rule.specs.Raw.{entries, pairs}
 use Rattle.rule.specs.Refusals.{some, is_outside, strays, rises_from, rises, pair_below, pairs_rise_from, pairs_rise}
@@ -39,14 +39,14 @@ lower : (low a : ℕ) (xs : List ℕ) (high : ℕ) → a ≤ low → Rises low x
 lower low a [] high l h = omega arith
 lower low a (x ∷ xs) high l h = let k : low ≤ x = h.0 in (omega arith, h.1)
 
-not_yet : (i low : ℕ) (xs : List ℕ) (high : ℕ) → i < low → Rises low xs high → some_at i (map Slot.At xs) ≡ false
+not_yet : (i low : ℕ) (xs : List ℕ) (high : ℕ) → i < low → Rises low xs high → some_at i (map Some xs) ≡ false
 unfolding some_at
 not_yet i low [] high l h = refl
 not_yet i low (x ∷ xs) high l h =
     let k : low ≤ x = h.0 in
     rw (ne_eqb i x (λ (e : i ≡ x). omega arith)) (not_yet i (suc x) xs high (omega arith) h.1)
 
-slots_back : (f : ℕ → Bool) (n i : ℕ) (xs : List ℕ) → Rises i xs (i + n) → ((k : ℕ) → i ≤ k → f k ≡ some_at k (map Slot.At xs))
+slots_back : (f : ℕ → Bool) (n i : ℕ) (xs : List ℕ) → Rises i xs (i + n) → ((k : ℕ) → i ≤ k → f k ≡ some_at k (map Some xs))
     → slots_from i (flags f n i) ≡ xs
 unfolding slots_from flags some_at
 slots_back f zero i [] h e = refl
@@ -61,7 +61,7 @@ slots_back f (suc n) i (x ∷ xs) h e = go (eqb i x) refl (slots_back f n (i + 1
     sum = omega arith
 
     go : (t : Bool) → eqb i x ≡ t
-        → ((ys : List ℕ) → Rises (i + 1) ys (i + 1 + n) → ((k : ℕ) → i + 1 ≤ k → f k ≡ some_at k (map Slot.At ys)) → slots_from (i + 1) (flags f n (i + 1)) ≡ ys)
+        → ((ys : List ℕ) → Rises (i + 1) ys (i + 1 + n) → ((k : ℕ) → i + 1 ≤ k → f k ≡ some_at k (map Some ys)) → slots_from (i + 1) (flags f n (i + 1)) ≡ ys)
         → slots_from i (f i ∷ flags f n (i + 1)) ≡ x ∷ xs
     go true q again =
         let s : i ≡ x = eqb-true i x q in
@@ -69,37 +69,37 @@ slots_back f (suc n) i (x ∷ xs) h e = go (eqb i x) refl (slots_back f n (i + 1
         (ap (λ (j : ℕ). j ∷ slots_from (i + 1) (flags f n (i + 1))) s
         ∙ ap (λ (l : List ℕ). x ∷ l)
         (again xs (subst (λ (m : ℕ). Rises (i + 1) xs m) sum (lower (suc x) (i + 1) xs (i + suc n) (omega arith) h.1))
-        (λ k l. e k (omega arith) ∙ ap (λ (b : Bool). b || some_at k (map Slot.At xs)) (ne_eqb k x (λ (z : k ≡ x). omega arith)))))
+        (λ k l. e k (omega arith) ∙ ap (λ (b : Bool). b || some_at k (map Some xs)) (ne_eqb k x (λ (z : k ≡ x). omega arith)))))
     go false q again =
         let d : i < x = let z : i ≡ x → ⊥ = eqb-false i x q in omega arith in
         rw (e i (omega arith), q, not_yet i (suc x) xs (i + suc n) (omega arith) h.1, slots_from)
         (again (x ∷ xs) (omega arith, subst (λ (m : ℕ). Rises (suc x) xs m) sum h.1) (λ k l. e k (omega arith)))
 
-set_back : (n : ℕ) (xs : List ℕ) → Rises 0 xs n → slots_from 0 (set_of n (map Slot.At xs)) ≡ xs
+set_back : (n : ℕ) (xs : List ℕ) → Rises 0 xs n → slots_from 0 (set_of n (map Some xs)) ≡ xs
 unfolding set_of
 set_back n xs h =
-    slots_back (λ (i : ℕ). some_at i (map Slot.At xs)) n 0 xs (subst (λ (m : ℕ). Rises 0 xs m) (let z : n ≡ 0 + n = omega arith in z) h) (λ k l. refl)
+    slots_back (λ (i : ℕ). some_at i (map Some xs)) n 0 xs (subst (λ (m : ℕ). Rises 0 xs m) (let z : n ≡ 0 + n = omega arith in z) h) (λ k l. refl)
 
 -- an entry in its range has a slot
 pub record Placed (g : Range) (v : ℤ) : Type 0 where
   pub i : ℕ
-  pub slot : slot_of g v ≡ Slot.At i
+  pub slot : slot_of g v ≡ Some i
 
 placed : (g : Range) (v : ℤ) → is_outside (slot_of g v) ≡ false → Placed g v
 placed g v h = go (slot_of g v) refl h
   where
-    go : (e : Slot) → slot_of g v ≡ e → is_outside e ≡ false → Placed g v
-    go (Slot.At i) p q = record { i = i; slot = p }
-    go Slot.Outside p q = absurd (let z : ◌≡◌ {A = ℕ} 0 1 = cc in omega arith)
+    go : (e : Option ℕ) → slot_of g v ≡ e → is_outside e ≡ false → Placed g v
+    go (Some i) p q = record { i = i; slot = p }
+    go None p q = absurd (let z : ◌≡◌ {A = ℕ} 0 1 = cc in omega arith)
 
 -- A list's slots rise from low on, and its entries are their values.
 pub record Slotted (g : Range) (low : ℕ) (l : List ℤ) : Type 0 where
   pub at : List ℕ
-  pub slots_are : entries g l ≡ map Slot.At at
+  pub slots_are : entries g l ≡ map Some at
   pub rise : Rises low at (slots g)
   pub back : map (value_of g) at ≡ l
 
-slotted_next : (g : Range) (x : ℤ) (xs : List ℤ) (low j : ℕ) → low ≤ j → slot_of g x ≡ Slot.At j → Slotted g (suc j) xs → Slotted g low (x ∷ xs)
+slotted_next : (g : Range) (x : ℤ) (xs : List ℤ) (low j : ℕ) → low ≤ j → slot_of g x ≡ Some j → Slotted g (suc j) xs → Slotted g low (x ∷ xs)
 slotted_next g x xs low j l s t = record {
   at = j ∷ t.at;
   slots_are = rw (s, t.slots_are);
@@ -107,7 +107,7 @@ slotted_next g x xs low j l s t = record {
   back = rw (value_of_its_slot g x j s, t.back);
 }
 
-slotted_from : (g : Range) (a : ℤ) (i : ℕ) (l : List ℤ) → slot_of g a ≡ Slot.At i → strays g l ≡ false → rises_from a l ≡ true → Slotted g (suc i) l
+slotted_from : (g : Range) (a : ℤ) (i : ℕ) (l : List ℤ) → slot_of g a ≡ Some i → strays g l ≡ false → rises_from a l ≡ true → Slotted g (suc i) l
 unfolding strays some rises_from
 slotted_from g a i [] s h r = record { at = []; slots_are = refl; rise = slot_low g a i s; back = refl }
 slotted_from g a i (x ∷ xs) s h r =
@@ -128,12 +128,12 @@ slotted g (x ∷ xs) h r =
 pub list_back : (g : Range) (l : List ℤ) → strays g l ≡ false → rises l ≡ true → values g (set_of (slots g) (entries g l)) ≡ l
 list_back g l h r =
     let t = slotted g l h r in
-    ap (λ (es : List Slot). values g (set_of (slots g) es)) t.slots_are ∙ ap (map (value_of g)) (set_back (slots g) t.at t.rise) ∙ t.back
+    ap (λ (es : List (Option ℕ)). values g (set_of (slots g) es)) t.slots_are ∙ ap (map (value_of g)) (set_back (slots g) t.at t.rise) ∙ t.back
 
 -- The same of BYDAY's pairs.
 pub record PairPlaced (n w : ℤ) : Type 0 where
   pub i : ℕ
-  pub slot : pair_slot n w ≡ Slot.At i
+  pub slot : pair_slot n w ≡ Some i
 
 pair_placed : (n w : ℤ) → is_outside (slot_of nths n) ≡ false → is_outside (slot_of weekdays w) ≡ false → PairPlaced n w
 unfolding pair_slot
@@ -142,13 +142,13 @@ pair_placed n w h k =
     let q = placed weekdays w k in
     record { i = p.i * 7 + q.i; slot = rw (p.slot, q.slot) }
 
-pair_low : (n w : ℤ) (i : ℕ) → pair_slot n w ≡ Slot.At i → i < 749
+pair_low : (n w : ℤ) (i : ℕ) → pair_slot n w ≡ Some i → i < 749
 pair_low n w i e =
     let h = halves n w i e in
     let a : h.a < 107 = slot_low nths n h.a h.first in
     omega (arith, h.slot, h.short)
 
-pair_back : (n w : ℤ) (j : ℕ) → pair_slot n w ≡ Slot.At j → (nth_at j ≡ n) × (day_at j ≡ w)
+pair_back : (n w : ℤ) (j : ℕ) → pair_slot n w ≡ Some j → (nth_at j ≡ n) × (day_at j ≡ w)
 pair_back n w j e =
     let h = halves n w j e in
     let b : h.b < 7 = h.short in (
@@ -158,12 +158,12 @@ pair_back n w j e =
 
 pub record Paired (low : ℕ) (ns ws : List ℤ) : Type 0 where
   pub at : List ℕ
-  pub slots_are : pairs ns ws ≡ map Slot.At at
+  pub slots_are : pairs ns ws ≡ map Some at
   pub rise : Rises low at 749
   pub nths_back : map nth_at at ≡ ns
   pub days_back : map day_at at ≡ ws
 
-paired_next : (n w : ℤ) (ns ws : List ℤ) (low j : ℕ) → low ≤ j → pair_slot n w ≡ Slot.At j → Paired (suc j) ns ws → Paired low (n ∷ ns) (w ∷ ws)
+paired_next : (n w : ℤ) (ns ws : List ℤ) (low j : ℕ) → low ≤ j → pair_slot n w ≡ Some j → Paired (suc j) ns ws → Paired low (n ∷ ns) (w ∷ ws)
 unfolding pairs
 paired_next n w ns ws low j l s t = record {
   at = j ∷ t.at;
@@ -173,7 +173,7 @@ paired_next n w ns ws low j l s t = record {
   days_back = rw ((pair_back n w j s).1, t.days_back);
 }
 
-paired_from : (n w : ℤ) (i : ℕ) (ns ws : List ℤ) → pair_slot n w ≡ Slot.At i → length ns ≡ length ws → strays nths ns ≡ false → strays weekdays ws ≡ false
+paired_from : (n w : ℤ) (i : ℕ) (ns ws : List ℤ) → pair_slot n w ≡ Some i → length ns ≡ length ws → strays nths ns ≡ false → strays weekdays ws ≡ false
     → pairs_rise_from n w ns ws ≡ true → Paired (suc i) ns ws
 unfolding strays some pairs pairs_rise_from
 paired_from n w i [] [] s e h k r = record { at = []; slots_are = refl; rise = pair_low n w i s; nths_back = refl; days_back = refl }
@@ -202,5 +202,5 @@ pub pairs_back : (ns ws : List ℤ) → length ns ≡ length ws → strays nths 
     → (map nth_at (slots_from 0 (set_of 749 (pairs ns ws))) ≡ ns) × (map day_at (slots_from 0 (set_of 749 (pairs ns ws))) ≡ ws)
 pairs_back ns ws e h k r =
     let t = paired ns ws e h k r in
-    let s = ap (λ (es : List Slot). slots_from 0 (set_of 749 es)) t.slots_are ∙ set_back 749 t.at t.rise in
+    let s = ap (λ (es : List (Option ℕ)). slots_from 0 (set_of 749 es)) t.slots_are ∙ set_back 749 t.at t.rise in
     (ap (map nth_at) s ∙ t.nths_back, ap (map day_at) s ∙ t.days_back)

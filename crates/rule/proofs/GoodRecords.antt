@@ -1,5 +1,6 @@
 -- A record is good exactly when some raw rule's accepted check yields it.
 -- Assumes nothing.
+use Rattle.std.specs.Prelude.{Ok, Err}
 use mathlib.Core.Path.{◌≡◌, refl, ap, sym, ◌∙◌}
 use mathlib.Core.Bool.{Bool, true, false, not, ◌&&◌}
 use mathlib.Core.List.{List, [], ◌∷◌}
@@ -10,7 +11,7 @@ use lib.ListN.{length}
 use lib.IntN.{ℤ}
 use borrow.Author.Tests.{eqb-true, not-false, ltb-false}
 use Rattle.rule.specs.declared.rrule.Refusal.{Refusal}
-use Rattle.rule.specs.declared.rrule.Verdict.{Verdict}
+use Rattle.rule.specs.Refusals.{Verdict}
 use Rattle.rule.specs.declared.rrule.Rule.{Rule}
 use Rattle.rule.specs.Lists.{months, monthdays, yeardays, weeknos, nths, weekdays, hours, minutes, seconds, positions}
 use Rattle.rule.specs.Raw.{RawLists, Raw, raw_lists, raw, entries, pairs}
@@ -68,9 +69,9 @@ one_record q r e1 e2 e3 e4 e5 e6 h =
     whole
 
 -- A good record: its own raw rule yields it.
-yields : (w : Raw) (r : Rule) → verdict w ≡ Verdict.Accepted → fill (given w) ≡ r → Yields w r
+yields : (w : Raw) (r : Rule) → verdict w ≡ Ok tt → fill (given w) ≡ r → Yields w r
 unfolding checked answers
-yields w r a e = record { accepted = rw a; record_is = rw a e }
+yields w r a e = rw (a, e)
 
 given_again : (r : Rule) → same_sets (fill (given (as_raw r))) r ≡ true → fill (given (as_raw r)) ≡ r
 unfolding fill fill_from given given_as as_raw
@@ -237,21 +238,21 @@ good_if r z h e =
     ∙ both_pass (accepted_is r z ∙ h)
     (ap (λ (x : Rule). same_sets (fill x) r) (given_back r z) ∙ ap (λ (x : Rule). same_sets x r) e ∙ same_record r)
 
-filled_good : (w : Raw) → verdict w ≡ Verdict.Accepted → yielded (fill (given w)) ≡ true
+filled_good : (w : Raw) → verdict w ≡ Ok tt → yielded (fill (given w)) ≡ true
 filled_good w e =
     good_if (fill (given w)) (fill_sized (given w) (given_sized w))
     (all_kept (fill (given w)) (λ n. fill_keeps (given w) (given_sized w) n (rows_given w ((none_given w).0 e) n)))
     (fill_once (given w))
 
-answered : (v : Verdict) (q r : Rule) → (answers v q).verdict ≡ Verdict.Accepted → (answers v q).rule ≡ r → (v ≡ Verdict.Accepted) × (q ≡ r)
+answered : (v : Verdict) (q r : Rule) → answers v q ≡ Ok r → (v ≡ Ok tt) × (q ≡ r)
 unfolding answers
-answered (Verdict.Refused n) q r a e = absurd (let z : ◌≡◌ {A = ℕ} 0 1 = cc in omega arith)
-answered Verdict.Accepted q r a e = (refl, e)
+answered (Err n) q r e = absurd (let z : ◌≡◌ {A = ℕ} 0 1 = cc in omega arith)
+answered (Ok tt) q r e = (refl, cc)
 
 yielded_good : (w : Raw) (r : Rule) → Yields w r → yielded r ≡ true
 unfolding checked
 yielded_good w r y =
-    let b = answered (verdict w) (fill (given w)) r y.accepted y.record_is in
+    let b = answered (verdict w) (fill (given w)) r y in
     ap yielded (sym b.1) ∙ filled_good w b.0
 
 pub good_records : GoodRecords

@@ -1,5 +1,6 @@
 -- The twelve rows are the nine and three more: what comes of a table in two parts.
 -- Assumes nothing.
+use Rattle.std.specs.Prelude.{Ok, Err}
 use Prim.Native.Nat.{ℕ}
 use mathlib.Core.Path.{◌≡◌, refl, ap, sym, ◌∙◌}
 use mathlib.Core.Bool.{Bool, true, false, ◌&&◌}
@@ -7,7 +8,7 @@ use mathlib.Core.List.{List, [], ◌∷◌, ◌++◌}
 use native.Mathlib.Omega.{arith}
 use Rattle.machine.specs.Calls.{call, answered}
 use Rattle.rule.specs.declared.rrule.Refusal.{Refusal}
-use Rattle.rule.specs.declared.rrule.Verdict.{Verdict}
+use Rattle.rule.specs.Refusals.{Verdict}
 use Rattle.rule.specs.declared.rrule.Rule.{Rule}
 use Rattle.rule.specs.Raw.{Raw}
 use Rattle.rule.specs.Refusals.{refusals, applies, first_of, verdict}
@@ -21,8 +22,8 @@ use Rattle.rule.proofs.RefusalLaws.{later}
 
 -- a verdict, or another where it is none
 or_else : Verdict → Verdict → Verdict
-or_else (Verdict.Refused n) v = Verdict.Refused n
-or_else Verdict.Accepted v = v
+or_else (Err n) v = Err n
+or_else (Ok tt) v = v
 
 -- the first of two tables, one after the other
 first_of_two : (p : Refusal → Bool) (ms ns : List Refusal) → first_of p (ms ++ ns) ≡ or_else (first_of p ms) (first_of p ns)
@@ -31,8 +32,8 @@ first_of_two p [] ns = refl
 first_of_two p (m ∷ ms) ns = go (p m) (first_of_two p ms ns)
   where
     go : (t : Bool) → first_of p (ms ++ ns) ≡ or_else (first_of p ms) (first_of p ns)
-        → elim t [ true ↦ Verdict.Refused m | false ↦ first_of p (ms ++ ns) ]
-        ≡ or_else (elim t [ true ↦ Verdict.Refused m | false ↦ first_of p ms ]) (first_of p ns)
+        → elim t [ true ↦ Err m | false ↦ first_of p (ms ++ ns) ]
+        ≡ or_else (elim t [ true ↦ Err m | false ↦ first_of p ms ]) (first_of p ns)
     go true e = refl
     go false e = e
 
@@ -44,20 +45,20 @@ unfolding verdict verdict_by_nine
 by_parts w = first_of_two (λ n. applies n w) nine_rows new_rows
 
 -- where the nine have a refusal it stays, and where the three have none the verdict stays
-refused_first : (v u : Verdict) (n : Refusal) → v ≡ Verdict.Refused n → or_else v u ≡ v
+refused_first : (v u : Verdict) (n : Refusal) → v ≡ Err n → or_else v u ≡ v
 unfolding or_else
-refused_first (Verdict.Refused m) u n e = refl
-refused_first Verdict.Accepted u n e = absurd (let z : ◌≡◌ {A = ℕ} 0 1 = cc in omega arith)
+refused_first (Err m) u n e = refl
+refused_first (Ok tt) u n e = absurd (let z : ◌≡◌ {A = ℕ} 0 1 = cc in omega arith)
 
-none_added : (v u : Verdict) → u ≡ Verdict.Accepted → or_else v u ≡ v
+none_added : (v u : Verdict) → u ≡ Ok tt → or_else v u ≡ v
 unfolding or_else
-none_added (Verdict.Refused m) u e = refl
-none_added Verdict.Accepted u e = e
+none_added (Err m) u e = refl
+none_added (Ok tt) u e = e
 
-accepted_first : (v u : Verdict) → or_else v u ≡ Verdict.Accepted → v ≡ Verdict.Accepted
+accepted_first : (v u : Verdict) → or_else v u ≡ Ok tt → v ≡ Ok tt
 unfolding or_else
-accepted_first (Verdict.Refused m) u e = e
-accepted_first Verdict.Accepted u e = refl
+accepted_first (Err m) u e = e
+accepted_first (Ok tt) u e = refl
 
 -- one verdict, one answer
 same_answer : (w : Raw) → verdict w ≡ verdict_by_nine w → checked w ≡ checked_by_nine w
@@ -73,12 +74,12 @@ earlier_rows_first w = (
 
 pub still_accepted : StillAccepted
 unfolding checked
-still_accepted w e =
-    let a : verdict w ≡ Verdict.Accepted = sym (answered_verdict (verdict w) (fill (given w))) ∙ e in
-    let b : verdict_by_nine w ≡ Verdict.Accepted = accepted_first (verdict_by_nine w) _ (sym (by_parts w) ∙ a) in
+still_accepted w r e =
+    let a : verdict w ≡ Ok tt = answered_verdict (verdict w) (fill (given w)) r e in
+    let b : verdict_by_nine w ≡ Ok tt = accepted_first (verdict_by_nine w) _ (sym (by_parts w) ∙ a) in
     sym (same_answer w (a ∙ sym b))
 
-none_new : (w : Raw) → Untouched w → first_of (λ n. applies n w) new_rows ≡ Verdict.Accepted
+none_new : (w : Raw) → Untouched w → first_of (λ n. applies n w) new_rows ≡ Ok tt
 unfolding first_of
 none_new w u =
     later p Refusal.Nought (Refusal.CountAndUntil ∷ Refusal.ListMisplaced ∷ []) u.nought

@@ -1,5 +1,6 @@
 -- The refusals as a list: the first that passes a test, whether any does, and that each refusal is in the list.
 -- Assumes nothing.
+use Rattle.std.specs.Prelude.{Ok, Err}
 use mathlib.Core.Path.{◌≡◌, refl, ap, sym, ◌∙◌}
 use mathlib.Core.Logic.{◌⊎◌, inl, inr, ⊎_elim}
 use mathlib.Core.Bool.{Bool, true, false, not, ◌&&◌, ◌||◌}
@@ -10,7 +11,7 @@ use lib.Dec.{eqb, leb}
 use borrow.Author.Tests.{leb-true}
 use Rattle.machine.specs.Rising.{Rises}
 use Rattle.rule.specs.declared.rrule.Refusal.{Refusal}
-use Rattle.rule.specs.declared.rrule.Verdict.{Verdict}
+use Rattle.rule.specs.Refusals.{Verdict}
 use Rattle.rule.specs.declared.rrule.Rule.{Rule}
 use Rattle.rule.specs.Refusals.{refusal_number, refusals, some, applies, first_of, verdict}
 use Rattle.rule.specs.Records.{accepts, breaks, breaks_no_row}
@@ -26,15 +27,15 @@ either : (b : Bool) → (b ≡ true) ⊎ (b ≡ false)
 either true = inl refl
 either false = inr refl
 
-never : (n : Refusal) → Verdict.Accepted ≡ Verdict.Refused n → ⊥
+never : (n : Refusal) → ◌≡◌ {A = Verdict} (Ok tt) (Err n) → ⊥
 never n e = let z : ◌≡◌ {A = ℕ} 0 1 = cc in omega arith
 
-same_refusal : (m n : Refusal) → Verdict.Refused m ≡ Verdict.Refused n → m ≡ n
+same_refusal : (m n : Refusal) → ◌≡◌ {A = Verdict} (Err m) (Err n) → m ≡ n
 same_refusal m n e = cc
 
-pub accepting : (v : Verdict) → accepts v ≡ true → v ≡ Verdict.Accepted
-accepting (Verdict.Refused n) h = absurd (let z : ◌≡◌ {A = ℕ} 0 1 = cc in omega arith)
-accepting Verdict.Accepted h = refl
+pub accepting : (v : Verdict) → accepts v ≡ true → v ≡ Ok tt
+accepting (Err n) h = absurd (let z : ◌≡◌ {A = ℕ} 0 1 = cc in omega arith)
+accepting (Ok tt) h = refl
 
 -- in a list that rises, each is at least as high as the list begins
 not_below : (n : Refusal) (ns : List Refusal) (low high : ℕ) → Rises low (map refusal_number ns) high → IsIn n ns → low ≤ refusal_number n
@@ -46,7 +47,7 @@ not_below n (k ∷ ks) low high h (inr i) =
     omega arith
 
 module _ (p : Refusal → Bool) where
-  here : (k : Refusal) (ks : List Refusal) → p k ≡ true → first_of p (k ∷ ks) ≡ Verdict.Refused k
+  here : (k : Refusal) (ks : List Refusal) → p k ≡ true → first_of p (k ∷ ks) ≡ Err k
   unfolding first_of
   here k ks h = rw (h, first_of)
 
@@ -55,14 +56,14 @@ module _ (p : Refusal → Bool) where
   later k ks h = rw (h, first_of)
 
   -- the first that passes is one of the list, and passes
-  first_in : (n : Refusal) (ns : List Refusal) → first_of p ns ≡ Verdict.Refused n → IsIn n ns
+  first_in : (n : Refusal) (ns : List Refusal) → first_of p ns ≡ Err n → IsIn n ns
   unfolding first_of
   first_in n [] e = absurd (never n e)
   first_in n (k ∷ ks) e =
       ⊎_elim (λ (h : p k ≡ true). inl (sym (same_refusal k n (sym (here k ks h) ∙ e)))) (λ (h : p k ≡ false). inr (first_in n ks (sym (later k ks h) ∙ e)))
       (either (p k))
 
-  first_passes : (n : Refusal) (ns : List Refusal) → first_of p ns ≡ Verdict.Refused n → p n ≡ true
+  first_passes : (n : Refusal) (ns : List Refusal) → first_of p ns ≡ Err n → p n ≡ true
   unfolding first_of
   first_passes n [] e = absurd (never n e)
   first_passes n (k ∷ ks) e =
@@ -71,14 +72,14 @@ module _ (p : Refusal → Bool) where
 
   -- where the first of a list that rises passes, none of the list is below it
   too_low : (n m k : Refusal) (ks : List Refusal) (high : ℕ) → Rises (suc (refusal_number k)) (map refusal_number ks) high
-      → first_of p (k ∷ ks) ≡ Verdict.Refused n → p k ≡ true → IsIn m (k ∷ ks) → refusal_number m < refusal_number n → ⊥
+      → first_of p (k ∷ ks) ≡ Err n → p k ≡ true → IsIn m (k ∷ ks) → refusal_number m < refusal_number n → ⊥
   too_low n m k ks high r e h i l =
       let q : refusal_number k ≡ refusal_number n = ap refusal_number (same_refusal k n (sym (here k ks h) ∙ e)) in
       let a : refusal_number k ≤ refusal_number m = not_below m (k ∷ ks) (refusal_number k) high (omega arith, r) i in
       omega arith
 
   -- where the list rises, none of a lower number passes; and one that passes with none below it is the first
-  none_lower : (n m : Refusal) (ns : List Refusal) (low high : ℕ) → Rises low (map refusal_number ns) high → first_of p ns ≡ Verdict.Refused n → IsIn m ns
+  none_lower : (n m : Refusal) (ns : List Refusal) (low high : ℕ) → Rises low (map refusal_number ns) high → first_of p ns ≡ Err n → IsIn m ns
       → refusal_number m < refusal_number n → p m ≡ false
   none_lower n m [] low high r e i l = absurd i
   none_lower n m (k ∷ ks) low high r e i l =
@@ -88,20 +89,20 @@ module _ (p : Refusal → Bool) where
       (either (p k))
 
   lowest_first : (n : Refusal) (ns : List Refusal) (low high : ℕ) → Rises low (map refusal_number ns) high → IsIn n ns → p n ≡ true
-      → ((m : Refusal) → refusal_number m < refusal_number n → p m ≡ false) → first_of p ns ≡ Verdict.Refused n
+      → ((m : Refusal) → refusal_number m < refusal_number n → p m ≡ false) → first_of p ns ≡ Err n
   lowest_first n [] low high r i h f = absurd i
-  lowest_first n (k ∷ ks) low high r (inl e) h f = here k ks (ap p (sym e) ∙ h) ∙ ap (λ (x : Refusal). Verdict.Refused x) (sym e)
+  lowest_first n (k ∷ ks) low high r (inl e) h f = here k ks (ap p (sym e) ∙ h) ∙ ap (λ (x : Refusal). Err x) (sym e)
   lowest_first n (k ∷ ks) low high r (inr i) h f =
       later k ks (f k (not_below n ks (suc (refusal_number k)) high r.1 i)) ∙ lowest_first n ks (suc (refusal_number k)) high r.1 i h f
 
   -- none of the list passes
-  none_passes : (ns : List Refusal) → first_of p ns ≡ Verdict.Accepted → (m : Refusal) → IsIn m ns → p m ≡ false
+  none_passes : (ns : List Refusal) → first_of p ns ≡ Ok tt → (m : Refusal) → IsIn m ns → p m ≡ false
   none_passes [] e m i = absurd i
   none_passes (k ∷ ks) e m i =
       ⊎_elim (λ (h : p k ≡ true). absurd (never k (sym e ∙ here k ks h)))
       (λ (h : p k ≡ false). ⊎_elim (λ (q : m ≡ k). ap p q ∙ h) (λ (j : IsIn m ks). none_passes ks (sym (later k ks h) ∙ e) m j) i) (either (p k))
 
-  none_first : (ns : List Refusal) → ((m : Refusal) → p m ≡ false) → first_of p ns ≡ Verdict.Accepted
+  none_first : (ns : List Refusal) → ((m : Refusal) → p m ≡ false) → first_of p ns ≡ Ok tt
   unfolding first_of
   none_first [] f = refl
   none_first (k ∷ ks) f = later k ks (f k) ∙ none_first ks f
@@ -112,12 +113,12 @@ module _ (p : Refusal → Bool) where
   accepts_none (k ∷ ks) = go (p k) (accepts_none ks)
     where
       go : (t : Bool) → accepts (first_of p ks) ≡ not (some p ks)
-          → accepts (elim t [ true ↦ Verdict.Refused k | false ↦ first_of p ks ]) ≡ not (t || some p ks)
+          → accepts (elim t [ true ↦ Err k | false ↦ first_of p ks ]) ≡ not (t || some p ks)
       go true e = refl
       go false e = e
 
 -- Each refusal is in the list: the first with its number is it.
-at_its_number : (n : Refusal) → first_of (λ (m : Refusal). eqb (refusal_number m) (refusal_number n)) refusals ≡ Verdict.Refused n
+at_its_number : (n : Refusal) → first_of (λ (m : Refusal). eqb (refusal_number m) (refusal_number n)) refusals ≡ Err n
 unfolding first_of
 at_its_number Refusal.FrequencyAbove = refl
 at_its_number Refusal.WeekStartAbove = refl

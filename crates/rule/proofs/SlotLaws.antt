@@ -1,6 +1,6 @@
 -- Slots and values: a value in a range and its slot go back and forth, in the same order.
 -- Assumes nothing.
-use Rattle.std.specs.Prelude.{if◌then◌else◌}
+use Rattle.std.specs.Prelude.{if◌then◌else◌, Option, Some, None}
 use mathlib.Core.Path.{◌≡◌, refl, ap, sym, ◌∙◌}
 use mathlib.Core.Bool.{Bool, true, false, not, ◌&&◌, ◌||◌}
 use Prim.Native.Nat.{ℕ, zero, suc, ◌+◌, ◌-◌, ◌*◌, ◌/◌, ◌%◌, ◌≤◌, ◌<◌}
@@ -10,7 +10,6 @@ use lib.Dec.{leb, ltb}
 use lib.IntN.{ℤ, pos, negsuc}
 use borrow.Author.Tests.{leb-true, lt-ltb, le-ltb, le-leb, ltb-true, ltb-false}
 use Rattle.rule.specs.declared.rrule.Range.{Range}
-use Rattle.rule.specs.declared.rrule.Slot.{Slot}
 use Rattle.rule.specs.Lists.{within, zeros, slots, slot_of, nths, weekdays, beside, pair_slot}
 use Rattle.rule.specs.Records.{value_of}
 use Rattle.rule.specs.Claims.{SlotOfItsValue, ValueOfItsSlot, SlotOrder, PairOrder}
@@ -19,7 +18,7 @@ pub record Within (b : Bool) (k i : ℕ) : Type 0 where
   pub holds : b ≡ true
   pub slot : k ≡ i
 
-within_at : (b : Bool) (k i : ℕ) → within b k ≡ Slot.At i → Within b k i
+within_at : (b : Bool) (k i : ℕ) → within b k ≡ Some i → Within b k i
 within_at true k i e = record { holds = refl; slot = cc }
 within_at false k i e = absurd (let z : ◌≡◌ {A = ℕ} 0 1 = cc in omega arith)
 
@@ -42,43 +41,43 @@ pub record Above (g : Range) (n i : ℕ) : Type 0 where
   pub fits : suc n ≤ g.positives
   pub slot : i ≡ g.negatives + zeros g + n
 
-below : (g : Range) (n i : ℕ) → slot_of g (negsuc n) ≡ Slot.At i → Below g n i
+below : (g : Range) (n i : ℕ) → slot_of g (negsuc n) ≡ Some i → Below g n i
 unfolding slot_of
 below g n i e =
     let w = within_at (leb (suc n) g.negatives) (g.negatives - suc n) i e in
     let h : suc n ≤ g.negatives = leb-true _ _ w.holds in
     record { fits = h; slot = omega (arith, w.slot) }
 
-middle : (g : Range) (i : ℕ) → slot_of g (pos zero) ≡ Slot.At i → Middle g i
+middle : (g : Range) (i : ℕ) → slot_of g (pos zero) ≡ Some i → Middle g i
 unfolding slot_of
 middle g i e = let w = within_at g.zeroin g.negatives i e in record { fits = one_zero g w.holds; slot = sym w.slot }
 
-above : (g : Range) (n i : ℕ) → slot_of g (pos (suc n)) ≡ Slot.At i → Above g n i
+above : (g : Range) (n i : ℕ) → slot_of g (pos (suc n)) ≡ Some i → Above g n i
 unfolding slot_of
 above g n i e =
     let w = within_at (leb (suc n) g.positives) (g.negatives + zeros g + n) i e in record { fits = leb-true _ _ w.holds; slot = sym w.slot }
 
 -- a value of a range has a slot of it
-pub slot_low : (g : Range) (v : ℤ) (i : ℕ) → slot_of g v ≡ Slot.At i → i < slots g
+pub slot_low : (g : Range) (v : ℤ) (i : ℕ) → slot_of g v ≡ Some i → i < slots g
 slot_low g (negsuc n) i e = let b = below g n i e in omega arith
 slot_low g (pos zero) i e = let b = middle g i e in omega arith
 slot_low g (pos (suc n)) i e = let b = above g n i e in omega arith
 
 -- from 0 up, or from 1 up
-up_from_zero : (g : Range) (k i : ℕ) → g.zeroin ≡ true → i ≡ g.negatives + k → k ≤ g.positives → slot_of g (pos k) ≡ Slot.At i
+up_from_zero : (g : Range) (k i : ℕ) → g.zeroin ≡ true → i ≡ g.negatives + k → k ≤ g.positives → slot_of g (pos k) ≡ Some i
 unfolding slot_of
-up_from_zero g zero i z e h = rw z (ap Slot.At (omega arith))
-up_from_zero g (suc k) i z e h = rw (le-leb (suc k) g.positives h) (ap Slot.At (omega (arith, one_zero g z)))
+up_from_zero g zero i z e h = rw z (ap Some (omega arith))
+up_from_zero g (suc k) i z e h = rw (le-leb (suc k) g.positives h) (ap Some (omega (arith, one_zero g z)))
 
 pub slot_of_its_value : SlotOfItsValue
 unfolding slot_of
 slot_of_its_value g i h = go (ltb i g.negatives) g.zeroin refl refl
   where
     go : (b z : Bool) → ltb i g.negatives ≡ b → g.zeroin ≡ z
-        → slot_of g (if b then negsuc (g.negatives - i - 1) else if z then pos (i - g.negatives) else pos (i - g.negatives + 1)) ≡ Slot.At i
+        → slot_of g (if b then negsuc (g.negatives - i - 1) else if z then pos (i - g.negatives) else pos (i - g.negatives + 1)) ≡ Some i
     go true z p q =
         let l : i < g.negatives = ltb-true _ _ p in
-        rw (le-leb (suc (g.negatives - i - 1)) g.negatives (omega arith)) (ap Slot.At (omega arith))
+        rw (le-leb (suc (g.negatives - i - 1)) g.negatives (omega arith)) (ap Some (omega arith))
     go false true p q =
         let l : g.negatives ≤ i = ltb-false _ _ p in
         let o : zeros g ≡ 1 = one_zero g q in
@@ -86,7 +85,7 @@ slot_of_its_value g i h = go (ltb i g.negatives) g.zeroin refl refl
     go false false p q =
         let l : g.negatives ≤ i = ltb-false _ _ p in
         let o : zeros g ≡ 0 = no_zero g q in
-        rw (add-one, le-leb (suc (i - g.negatives)) g.positives (omega arith)) (ap Slot.At (omega arith))
+        rw (add-one, le-leb (suc (i - g.negatives)) g.positives (omega arith)) (ap Some (omega arith))
 
 pub value_of_its_slot : ValueOfItsSlot
 value_of_its_slot g (negsuc n) i e =
@@ -137,20 +136,20 @@ slot_order g (pos (suc m)) (pos (suc n)) i j p q =
 pub record Halves (n w : ℤ) (i : ℕ) : Type 0 where
   pub a : ℕ
   pub b : ℕ
-  pub first : slot_of nths n ≡ Slot.At a
-  pub second : slot_of weekdays w ≡ Slot.At b
+  pub first : slot_of nths n ≡ Some a
+  pub second : slot_of weekdays w ≡ Some b
   pub short : b < 7
   pub slot : i ≡ a * 7 + b
 
-pub halves : (n w : ℤ) (i : ℕ) → pair_slot n w ≡ Slot.At i → Halves n w i
+pub halves : (n w : ℤ) (i : ℕ) → pair_slot n w ≡ Some i → Halves n w i
 unfolding pair_slot
 halves n w i e = go (slot_of nths n) (slot_of weekdays w) refl refl e
   where
-    go : (x y : Slot) → slot_of nths n ≡ x → slot_of weekdays w ≡ y → beside x y ≡ Slot.At i → Halves n w i
-    go (Slot.At a) (Slot.At b) p q r =
+    go : (x y : Option ℕ) → slot_of nths n ≡ x → slot_of weekdays w ≡ y → beside x y ≡ Some i → Halves n w i
+    go (Some a) (Some b) p q r =
         record { a = a; b = b; first = p; second = q; short = slot_low weekdays w b q; slot = let z : a * 7 + b ≡ i = cc in sym z }
-    go (Slot.At a) Slot.Outside p q r = absurd (let z : ◌≡◌ {A = ℕ} 0 1 = cc in omega arith)
-    go Slot.Outside y p q r = absurd (let z : ◌≡◌ {A = ℕ} 0 1 = cc in omega arith)
+    go (Some a) None p q r = absurd (let z : ◌≡◌ {A = ℕ} 0 1 = cc in omega arith)
+    go None y p q r = absurd (let z : ◌≡◌ {A = ℕ} 0 1 = cc in omega arith)
 
 -- numbers in base 7, by their two digits
 by_digits : (a b c d : ℕ) → b < 7 → d < 7 → (ltb a c || (not (ltb c a) && ltb b d)) ≡ ltb (a * 7 + b) (c * 7 + d)
@@ -177,7 +176,7 @@ pair_order n w m v i j p q =
     ∙ ap (λ (k : ℕ). ltb i k) (sym y.slot))
 
 -- the pair of a slot
-pub pair_of_its_slot : (i : ℕ) → i < 749 → pair_slot (value_of nths (i / 7)) (value_of weekdays (i % 7)) ≡ Slot.At i
+pub pair_of_its_slot : (i : ℕ) → i < 749 → pair_slot (value_of nths (i / 7)) (value_of weekdays (i % 7)) ≡ Some i
 unfolding pair_slot
 pair_of_its_slot i h =
-    rw (slot_of_its_value nths (i / 7) (omega arith), slot_of_its_value weekdays (i % 7) (omega arith)) (ap Slot.At (omega arith))
+    rw (slot_of_its_value nths (i / 7) (omega arith), slot_of_its_value weekdays (i % 7) (omega arith)) (ap Some (omega arith))

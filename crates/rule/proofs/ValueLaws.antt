@@ -1,5 +1,6 @@
 -- The values of a set: they lie in their range and rise strictly, and their set is the set again.
 -- Assumes nothing.
+use Rattle.std.specs.Prelude.{Option, Some}
 use mathlib.Core.Path.{◌≡◌, refl, ap, sym, ◌∙◌}
 use mathlib.Core.Bool.{Bool, true, false, not, ◌||◌, or_assoc}
 use mathlib.Core.List.{List, [], ◌∷◌, ◌++◌, map}
@@ -12,7 +13,6 @@ use lib.IntN.{ℤ}
 use lib.Signed.{lt_z}
 use borrow.Author.Tests.{lt-ltb, eq-eqb, ne_eqb}
 use Rattle.rule.specs.declared.rrule.Range.{Range}
-use Rattle.rule.specs.declared.rrule.Slot.{Slot}
 use Rattle.rule.specs.Lists.{slots, slot_of, nths, weekdays, pair_slot, is_empty, flags, some_at, set_of}
 use Rattle.rule.specs.Raw.{entries, pairs}
 use Rattle.rule.specs.Refusals.{lacks, some, is_outside, strays, rises_from, rises, pair_below, pairs_rise_from, pairs_rise}
@@ -84,60 +84,60 @@ pairs_by f g n i (true ∷ bs) h e = pairs_after f g n i (i + 1) bs (omega arith
 pairs_by f g n i (false ∷ bs) h e = pairs_by f g n (i + 1) bs (omega arith) e
 
 -- the slots of the values are the slots
-entries_by : (f : ℕ → ℤ) (g : Range) (n i : ℕ) (s : List Bool) → i + length s ≤ n → ((j : ℕ) → j < n → slot_of g (f j) ≡ Slot.At j)
-    → entries g (map f (slots_from i s)) ≡ map Slot.At (slots_from i s)
+entries_by : (f : ℕ → ℤ) (g : Range) (n i : ℕ) (s : List Bool) → i + length s ≤ n → ((j : ℕ) → j < n → slot_of g (f j) ≡ Some j)
+    → entries g (map f (slots_from i s)) ≡ map Some (slots_from i s)
 unfolding slots_from
 entries_by f g n i [] h e = refl
 entries_by f g n i (true ∷ bs) h e = rw (e i (omega arith), entries_by f g n (i + 1) bs (omega arith) e)
 entries_by f g n i (false ∷ bs) h e = entries_by f g n (i + 1) bs (omega arith) e
 
-pairs_are : (f g : ℕ → ℤ) (n i : ℕ) (s : List Bool) → i + length s ≤ n → ((j : ℕ) → j < n → pair_slot (f j) (g j) ≡ Slot.At j)
-    → pairs (map f (slots_from i s)) (map g (slots_from i s)) ≡ map Slot.At (slots_from i s)
+pairs_are : (f g : ℕ → ℤ) (n i : ℕ) (s : List Bool) → i + length s ≤ n → ((j : ℕ) → j < n → pair_slot (f j) (g j) ≡ Some j)
+    → pairs (map f (slots_from i s)) (map g (slots_from i s)) ≡ map Some (slots_from i s)
 unfolding slots_from pairs
 pairs_are f g n i [] h e = refl
 pairs_are f g n i (true ∷ bs) h e = rw (e i (omega arith), pairs_are f g n (i + 1) bs (omega arith) e)
 pairs_are f g n i (false ∷ bs) h e = pairs_are f g n (i + 1) bs (omega arith) e
 
 -- and their set is the set
-before_all : (k i : ℕ) (s : List Bool) → k < i → some_at k (map Slot.At (slots_from i s)) ≡ false
+before_all : (k i : ℕ) (s : List Bool) → k < i → some_at k (map Some (slots_from i s)) ≡ false
 unfolding slots_from some_at
 before_all k i [] h = refl
 before_all k i (true ∷ bs) h = rw (ne_eqb k i (λ (e : k ≡ i). omega arith)) (before_all k (i + 1) bs (omega arith))
 before_all k i (false ∷ bs) h = before_all k (i + 1) bs (omega arith)
 
-at_flag : (i k : ℕ) (s : List Bool) → some_at (i + k) (map Slot.At (slots_from i s)) ≡ get_or s k false
+at_flag : (i k : ℕ) (s : List Bool) → some_at (i + k) (map Some (slots_from i s)) ≡ get_or s k false
 unfolding slots_from some_at
 at_flag i k [] = refl
 at_flag i zero (true ∷ bs) = rw (eq-eqb (i + 0) i (omega arith))
 at_flag i zero (false ∷ bs) = before_all (i + 0) (i + 1) bs (omega arith)
 at_flag i (suc k) (true ∷ bs) =
     rw (ne_eqb (i + suc k) i (λ (e : i + suc k ≡ i). omega arith))
-    (ap (λ (j : ℕ). some_at j (map Slot.At (slots_from (i + 1) bs))) (let e : i + suc k ≡ i + 1 + k = omega arith in e) ∙ at_flag (i + 1) k bs)
+    (ap (λ (j : ℕ). some_at j (map Some (slots_from (i + 1) bs))) (let e : i + suc k ≡ i + 1 + k = omega arith in e) ∙ at_flag (i + 1) k bs)
 at_flag i (suc k) (false ∷ bs) =
-    ap (λ (j : ℕ). some_at j (map Slot.At (slots_from (i + 1) bs))) (let e : i + suc k ≡ i + 1 + k = omega arith in e) ∙ at_flag (i + 1) k bs
+    ap (λ (j : ℕ). some_at j (map Some (slots_from (i + 1) bs))) (let e : i + suc k ≡ i + 1 + k = omega arith in e) ∙ at_flag (i + 1) k bs
 
 length_flags : (f : ℕ → Bool) (n i : ℕ) → length (flags f n i) ≡ n
 unfolding flags
 length_flags f zero i = refl
 length_flags f (suc n) i = ap suc (length_flags f n (i + 1))
 
-pub length_set_of : (n : ℕ) (es : List Slot) → length (set_of n es) ≡ n
+pub length_set_of : (n : ℕ) (es : List (Option ℕ)) → length (set_of n es) ≡ n
 unfolding set_of
 length_set_of n es = length_flags (λ (i : ℕ). some_at i es) n 0
 
-pub set_of_at : (n : ℕ) (es : List Slot) (k : ℕ) → k < n → get_or (set_of n es) k false ≡ some_at k es
+pub set_of_at : (n : ℕ) (es : List (Option ℕ)) (k : ℕ) → k < n → get_or (set_of n es) k false ≡ some_at k es
 unfolding set_of
 set_of_at n es k h = flags_at_lem (λ (i : ℕ). some_at i es) n k h
 
-same_set : (n : ℕ) (s : List Bool) → length s ≡ n → set_of n (map Slot.At (slots_from 0 s)) ≡ s
+same_set : (n : ℕ) (s : List Bool) → length s ≡ n → set_of n (map Some (slots_from 0 s)) ≡ s
 same_set n s l =
-    ext_get_or false (set_of n (map Slot.At (slots_from 0 s))) s (length_set_of n (map Slot.At (slots_from 0 s)) ∙ sym l)
-    (λ k h. at k (let e : length (set_of n (map Slot.At (slots_from 0 s))) ≡ n = length_set_of n (map Slot.At (slots_from 0 s)) in omega arith))
+    ext_get_or false (set_of n (map Some (slots_from 0 s))) s (length_set_of n (map Some (slots_from 0 s)) ∙ sym l)
+    (λ k h. at k (let e : length (set_of n (map Some (slots_from 0 s))) ≡ n = length_set_of n (map Some (slots_from 0 s)) in omega arith))
   where
-    at : (k : ℕ) → k < n → get_or (set_of n (map Slot.At (slots_from 0 s))) k false ≡ get_or s k false
+    at : (k : ℕ) → k < n → get_or (set_of n (map Some (slots_from 0 s))) k false ≡ get_or s k false
     at k h =
-        set_of_at n (map Slot.At (slots_from 0 s)) k h
-        ∙ ap (λ (j : ℕ). some_at j (map Slot.At (slots_from 0 s))) (sym (zero-add k))
+        set_of_at n (map Some (slots_from 0 s)) k h
+        ∙ ap (λ (j : ℕ). some_at j (map Some (slots_from 0 s))) (sym (zero-add k))
         ∙ at_flag 0 k s
 
 -- of a set with a flag for each slot of a range

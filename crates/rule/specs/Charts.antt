@@ -1,16 +1,14 @@
 -- How a chart is written and played: a rule, the calls made of it in turn, and what each call is to answer, whole. All numbers are literal.
 -- Assumes nothing.
-use Rattle.std.specs.Prelude.{ℕ, zero, suc, ◌-◌, List, [], ◌∷◌, ◌++◌, true, false, eqb, ℤ, pos, neg_ℤ, nat_abs}
+use Rattle.std.specs.Prelude.{ℕ, zero, suc, ◌-◌, List, [], ◌∷◌, ◌++◌, true, false, eqb, ℤ, pos, neg_ℤ, nat_abs, Option, Some, None, Ok, Err}
 use Rattle.machine.specs.declared.Cause.{Cause}
 use Rattle.machine.specs.declared.State.{State}
 use Rattle.machine.specs.declared.Stop.{Stop}
 use Rattle.machine.specs.declared.Cursor.{Cursor}
 use Rattle.machine.specs.Calls.{Answered}
-use Rattle.rule.specs.declared.rrule.Count.{Count}
-use Rattle.rule.specs.declared.rrule.Until.{Until}
 use Rattle.rule.specs.declared.rrule.Refusal.{Refusal}
-use Rattle.rule.specs.declared.rrule.Verdict.{Verdict}
-use Rattle.rule.specs.declared.rrule.Checked.{Checked}
+use Rattle.rule.specs.Refusals.{Verdict}
+use Rattle.rule.specs.Filling.{Checked}
 use Rattle.rule.specs.declared.rrule.Rule.{Rule}
 use Rattle.rule.specs.Raw.{Raw, raw, raw_lists}
 use Rattle.rule.specs.Filling.{checked}
@@ -69,13 +67,13 @@ abbrev first_or : ℕ → List ℤ → ℕ
 first_or n [] = n
 first_or n (v ∷ vs) = nat_abs v
 
-abbrev count_in : List ℤ → Count
-count_in [] = Count.Absent
-count_in (v ∷ vs) = Count.Times (nat_abs v)
+abbrev count_in : List ℤ → Option ℕ
+count_in [] = None
+count_in (v ∷ vs) = Some (nat_abs v)
 
-abbrev until_in : List ℤ → Until
-until_in [] = Until.Absent
-until_in (v ∷ vs) = Until.At (nat_abs v)
+abbrev until_in : List ℤ → Option ℕ
+until_in [] = None
+until_in (v ∷ vs) = Some (nat_abs v)
 
 -- the raw rule of a frequency, a start and parts
 unfoldable pub rule_of : ℕ → ℕ → List Part → Raw
@@ -118,13 +116,13 @@ calls_of r c (x ∷ xs) =
     let a : Answered ℕ = run_of r c (blank_buffer x.room) x.budget in
     a ∷ calls_of r a.answer.cursor xs
 
-abbrev played_by : Verdict → Rule → List Chart → Played
-played_by (Verdict.Refused n) r xs = record { verdict = Verdict.Refused n; answers = [] }
-played_by Verdict.Accepted r xs = record { verdict = Verdict.Accepted; answers = calls_of r (fresh_of r) xs }
+abbrev played_by : Checked → List Chart → Played
+played_by (Err n) xs = record { verdict = Err n; answers = [] }
+played_by (Ok r) xs = record { verdict = Ok tt; answers = calls_of r (fresh_of r) xs }
 
 unfoldable pub play : Raw → List Chart → Played
 unfolding checked calls_of fresh_of
-play w xs = let c : Checked = checked w in played_by c.verdict c.rule xs
+play w xs = played_by (checked w) xs
 
 pub record Case : Type 0 where
   pub raw : Raw
@@ -132,10 +130,10 @@ pub record Case : Type 0 where
   pub played : Played
 
 abbrev pub accepted : ℕ → ℕ → List Part → List Chart → List (Answered ℕ) → Case
-accepted freq start ps calls answers = record { raw = rule_of freq start ps; calls = calls; played = record { verdict = Verdict.Accepted; answers = answers } }
+accepted freq start ps calls answers = record { raw = rule_of freq start ps; calls = calls; played = record { verdict = Ok tt; answers = answers } }
 
 abbrev pub refused_by : ℕ → ℕ → List Part → Refusal → Case
-refused_by freq start ps n = record { raw = rule_of freq start ps; calls = []; played = record { verdict = Verdict.Refused n; answers = [] } }
+refused_by freq start ps n = record { raw = rule_of freq start ps; calls = []; played = record { verdict = Err n; answers = [] } }
 
 abbrev pub play_of : Case → Played
 play_of c = play c.raw c.calls

@@ -1,6 +1,6 @@
 -- Demand 3: what any chain of calls from a fresh cursor lists, of every rule that an accepted check takes.
 -- Assumes nothing.
-use Rattle.std.specs.Prelude.{ℕ, ◌+◌, ◌≤◌, ◌<◌, ◌≡◌, ◌⊎◌, ◌↔◌, true, false, List, length}
+use Rattle.std.specs.Prelude.{ℕ, ◌+◌, ◌≤◌, ◌<◌, ◌≡◌, ◌⊎◌, ◌↔◌, true, false, List, length, Some, Ok}
 use Rattle.machine.specs.declared.Cause.{Cause}
 use Rattle.machine.specs.declared.State.{State}
 use Rattle.machine.specs.declared.Stop.{Stop}
@@ -12,10 +12,8 @@ use Rattle.machine.specs.Run.{Call, opened, Outcome, Ends}
 use Rattle.machine.specs.Compute.{outcome, run}
 use Rattle.machine.specs.Calls.{call, Told, chain, Each}
 use Rattle.machine.specs.Promises.{KeepsTo}
-use Rattle.rule.specs.declared.rrule.Count.{Count}
-use Rattle.rule.specs.declared.rrule.Until.{Until}
 use Rattle.rule.specs.declared.rrule.Refusal.{Refusal}
-use Rattle.rule.specs.declared.rrule.Verdict.{Verdict}
+use Rattle.rule.specs.Refusals.{Verdict}
 use Rattle.rule.specs.declared.rrule.Rule.{Rule}
 use Rattle.rule.specs.Instants.{second}
 use Rattle.rule.specs.Raw.{Raw}
@@ -56,11 +54,11 @@ pub record Lists (r : Rule) (calls : List (Call ℕ)) : Type 0 where
   pub number : (told_by r calls).cursor.number ≡ length (told_by r calls).listed
   pub counted : AtMost (count_of r.count) (length (told_by r calls).listed)
   -- an end by COUNT means exactly that many; any other end that none remains
-  pub by_count : EndedBy r calls Cause.Count → r.count ≡ Count.Times (length (told_by r calls).listed)
+  pub by_count : EndedBy r calls Cause.Count → r.count ≡ Some (length (told_by r calls).listed)
   pub none_left : (cause : Cause) → EndedBy r calls cause → (cause ≡ Cause.Count → ⊥) → (t : ℕ) → Satisfies r t → Handed r calls t
 
 abbrev pub DemandThree : Type 0
-DemandThree = (w : Raw) → (checked w).verdict ≡ Verdict.Accepted → (calls : List (Call ℕ)) → Lists (checked w).rule calls
+DemandThree = (w : Raw) (r : Rule) → checked w ≡ Ok r → (calls : List (Call ℕ)) → Lists r calls
 
 -- the same of every record that is not refused by 20
 abbrev pub GoodRecordsList : Type 0
@@ -68,10 +66,10 @@ GoodRecordsList = (r : Rule) → yielded r ≡ true → (calls : List (Call ℕ)
 
 -- Every such rule has INTERVAL 1 or more. So demand 3 holds as it was said before request 2026-01, too, when the check took INTERVAL 0.
 abbrev pub IntervalFollows : Type 0
-IntervalFollows = (w : Raw) → (checked w).verdict ≡ Verdict.Accepted → 1 ≤ w.interval
+IntervalFollows = (w : Raw) (r : Rule) → checked w ≡ Ok r → 1 ≤ w.interval
 
 abbrev pub DemandThreeBefore : Type 0
-DemandThreeBefore = (w : Raw) → (checked w).verdict ≡ Verdict.Accepted → 1 ≤ w.interval → (calls : List (Call ℕ)) → Lists (checked w).rule calls
+DemandThreeBefore = (w : Raw) (r : Rule) → checked w ≡ Ok r → 1 ≤ w.interval → (calls : List (Call ℕ)) → Lists r calls
 
 -- A record that a row of the table applies to is refused by 20, whatever the cursor (machine, RecordRefused). So it is where INTERVAL or COUNT is 0,
 -- and where COUNT and UNTIL are both present.
@@ -79,10 +77,10 @@ abbrev pub RowsRefused : Type 0
 RowsRefused = (r : Rule) (n : Refusal) → applies n (as_raw r) ≡ true → yielded r ≡ false
 
 abbrev pub ZeroRefused : Type 0
-ZeroRefused = (r : Rule) → (r.interval ≡ 0) ⊎ (r.count ≡ Count.Times 0) → yielded r ≡ false
+ZeroRefused = (r : Rule) → (r.interval ≡ 0) ⊎ (r.count ≡ Some 0) → yielded r ≡ false
 
 abbrev pub BothRefused : Type 0
-BothRefused = (r : Rule) (n t : ℕ) → r.count ≡ Count.Times n → r.until ≡ Until.At t → yielded r ≡ false
+BothRefused = (r : Rule) (n t : ℕ) → r.count ≡ Some n → r.until ≡ Some t → yielded r ≡ false
 
 -- The fresh cursor of a record that 20 doesn't refuse is running. So no calls from it end by Interval, and where they end by Count, they have handed
 -- out an instant.

@@ -1,19 +1,15 @@
 -- The record that an accepted check yields: the sets of the lists, filled in from the start.
 -- Assumes nothing.
-use Rattle.std.specs.Prelude.{ℕ, ◌≡◌, Bool, false, ◌&&◌, ◌||◌, List, eqb, ltb, replicate, pos, if◌then◌else◌}
+use Rattle.std.specs.Prelude.{ℕ, ◌≡◌, Bool, false, ◌&&◌, ◌||◌, List, eqb, ltb, replicate, pos, if◌then◌else◌, Option, None, Result, Ok, Err}
 use Rattle.rule.specs.declared.rrule.Frequency.{Frequency}
-use Rattle.rule.specs.declared.rrule.Count.{Count}
-use Rattle.rule.specs.declared.rrule.Until.{Until}
-use Rattle.rule.specs.declared.rrule.Verdict.{Verdict}
-use Rattle.rule.specs.declared.rrule.Checked.{Checked}
 use Rattle.rule.specs.declared.rrule.Rule.{Rule}
 use Rattle.calendar.specs.declared.utils.Date.{Date}
 use Rattle.calendar.specs.Calendar.{date_of, weekday}
 use Rattle.rule.specs.Instants.{second, day_of, hour_of, minute_of, second_of}
-use Rattle.rule.specs.declared.rrule.Slot.{Slot}
 use Rattle.rule.specs.Lists.{months, monthdays, yeardays, weeknos, hours, minutes, seconds, positions, slot_of, pair_slot, is_empty, set_of, mark}
 use Rattle.rule.specs.Raw.{RawLists, Raw, entries, pairs}
-use Rattle.rule.specs.Refusals.{verdict}
+use Rattle.rule.specs.declared.rrule.Refusal.{Refusal}
+use Rattle.rule.specs.Refusals.{Verdict, verdict}
 
 -- frequency 0 to 6: YEARLY, MONTHLY, WEEKLY, DAILY, HOURLY, MINUTELY, SECONDLY
 abbrev pub frequency_number : Frequency → ℕ
@@ -37,7 +33,7 @@ frequency n =
     else Frequency.Secondly
 
 -- the record as it is given, before filling in: the sets of the lists
-unfoldable pub given_as : Frequency → ℕ → Count → Until → (wkst start : ℕ) → RawLists → Rule
+unfoldable pub given_as : Frequency → ℕ → Option ℕ → Option ℕ → (wkst start : ℕ) → RawLists → Rule
 unfolding set_of slot_of pairs
 given_as freq interval count until wkst start l = record {
   freq = freq;
@@ -69,7 +65,7 @@ abbrev pub same : Frequency → Frequency → Bool
 same f g = eqb (frequency_number f) (frequency_number g)
 
 -- an empty list takes a value where the test says so
-unfoldable pub takes : Bool → List Bool → Slot → List Bool
+unfoldable pub takes : Bool → List Bool → Option ℕ → List Bool
 unfolding is_empty
 takes b s e = if b && is_empty s then mark s e else s
 
@@ -105,13 +101,13 @@ unfoldable pub fill : Rule → Rule
 unfolding fill_from no_days date_of
 fill r = fill_from r (no_days r) (second r.start) (date_of (day_of (second r.start)))
 
--- what stands for the record of a refused check
+-- the record that holds nothing: all its numbers are 0, its lists empty
 unfoldable pub blank : Rule
 blank = record {
   freq = Frequency.Yearly;
   interval = 0;
-  count = Count.Absent;
-  until = Until.Absent;
+  count = None;
+  until = None;
   wkst = 0;
   start = 0;
   bymonth = replicate 12 false;
@@ -125,16 +121,18 @@ blank = record {
   bysetpos = replicate 732 false;
 }
 
--- The check: the lowest refusal that applies, and a blank record; or the filled record.
+-- The check: the lowest refusal that applies; or the filled record.
+abbrev pub Checked : Type 0
+Checked = Result Rule Refusal
+
 unfoldable pub answers : Verdict → Rule → Checked
-answers (Verdict.Refused n) r = record { verdict = Verdict.Refused n; rule = blank }
-answers Verdict.Accepted r = record { verdict = Verdict.Accepted; rule = r }
+answers (Err n) r = Err n
+answers (Ok tt) r = Ok r
 
 unfoldable pub checked : Raw → Checked
 unfolding answers verdict given fill
 checked w = answers (verdict w) (fill (given w))
 
 -- an accepted check yields this record
-pub record Yields (w : Raw) (r : Rule) : Type 0 where
-  pub accepted : (checked w).verdict ≡ Verdict.Accepted
-  pub record_is : (checked w).rule ≡ r
+abbrev pub Yields : Raw → Rule → Type 0
+Yields w r = checked w ≡ Ok r

@@ -1,8 +1,7 @@
 -- The lists of a rule: their ranges, and the sets that a record holds of them. A set is reached only through "is v in it" and "is it empty".
 -- Assumes nothing.
-use Rattle.std.specs.Prelude.{ℕ, zero, suc, ◌+◌, ◌-◌, ◌*◌, Bool, true, false, ◌||◌, List, [], ◌∷◌, get_or, set, eqb, leb, ℤ, pos, negsuc, if◌then◌else◌}
+use Rattle.std.specs.Prelude.{ℕ, zero, suc, ◌+◌, ◌-◌, ◌*◌, Bool, true, false, ◌||◌, List, [], ◌∷◌, get_or, set, eqb, leb, ℤ, pos, negsuc, if◌then◌else◌, Option, Some, None}
 use Rattle.rule.specs.declared.rrule.Range.{Range}
-use Rattle.rule.specs.declared.rrule.Slot.{Slot}
 
 -- A range has the values -negatives..-1, then 0 if zeroin says so, then 1..positives. The ranges 0..n; 1..n; ±1..n; -n..n
 abbrev pub from_zero : ℕ → Range
@@ -53,10 +52,10 @@ positions = either_way 366
 abbrev pub zeros : Range → ℕ
 zeros g = if g.zeroin then 1 else 0
 
-abbrev pub within : Bool → ℕ → Slot
-within b i = if b then Slot.At i else Slot.Outside
+abbrev pub within : Bool → ℕ → Option ℕ
+within b i = if b then Some i else None
 
-unfoldable pub slot_of : Range → ℤ → Slot
+unfoldable pub slot_of : Range → ℤ → Option ℕ
 slot_of g (negsuc v) = within (leb (suc v) g.negatives) (g.negatives - suc v)
 slot_of g (pos zero) = within g.zeroin g.negatives
 slot_of g (pos (suc v)) = within (leb (suc v) g.positives) (g.negatives + zeros g + v)
@@ -66,19 +65,19 @@ abbrev pub slots : Range → ℕ
 slots g = g.negatives + zeros g + g.positives
 
 -- a pair's slot, by n and then by weekday
-abbrev pub beside : Slot → Slot → Slot
-beside (Slot.At a) (Slot.At b) = Slot.At (a * 7 + b)
-beside (Slot.At a) Slot.Outside = Slot.Outside
-beside Slot.Outside b = Slot.Outside
+abbrev pub beside : Option ℕ → Option ℕ → Option ℕ
+beside (Some a) (Some b) = Some (a * 7 + b)
+beside (Some a) None = None
+beside None b = None
 
-unfoldable pub pair_slot : ℤ → ℤ → Slot
+unfoldable pub pair_slot : ℤ → ℤ → Option ℕ
 unfolding slot_of
 pair_slot n w = beside (slot_of nths n) (slot_of weekdays w)
 
 -- A set has a flag for each slot. The value v is in it; the pair (n, w) is in it; it is empty.
-abbrev pub flag_at : List Bool → Slot → Bool
-flag_at s (Slot.At i) = get_or s i false
-flag_at s Slot.Outside = false
+abbrev pub flag_at : List Bool → Option ℕ → Bool
+flag_at s (Some i) = get_or s i false
+flag_at s None = false
 
 unfoldable pub is_in : Range → List Bool → ℤ → Bool
 unfolding slot_of
@@ -98,20 +97,20 @@ flags f zero i = []
 flags f (suc n) i = f i ∷ flags f n (i + 1)
 
 -- slot i is that of one of these entries
-abbrev pub is : ℕ → Slot → Bool
-is i (Slot.At j) = eqb i j
-is i Slot.Outside = false
+abbrev pub is : ℕ → Option ℕ → Bool
+is i (Some j) = eqb i j
+is i None = false
 
-unfoldable pub some_at : ℕ → List Slot → Bool
+unfoldable pub some_at : ℕ → List (Option ℕ) → Bool
 some_at i [] = false
 some_at i (e ∷ es) = is i e || some_at i es
 
 -- the set of these entries
-unfoldable pub set_of : ℕ → List Slot → List Bool
+unfoldable pub set_of : ℕ → List (Option ℕ) → List Bool
 unfolding flags some_at
 set_of n es = flags (λ i. some_at i es) n 0
 
 -- a set with an entry more
-abbrev pub mark : List Bool → Slot → List Bool
-mark s (Slot.At i) = set s i true
-mark s Slot.Outside = s
+abbrev pub mark : List Bool → Option ℕ → List Bool
+mark s (Some i) = set s i true
+mark s None = s

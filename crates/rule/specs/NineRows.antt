@@ -1,11 +1,11 @@
 -- The table before request 2026-01, of nine rows, and what of its answers stays. Nothing but the claims below leans on it.
 -- Assumes nothing.
-use Rattle.std.specs.Prelude.{ℕ, ◌≡◌, Bool, true, false, ◌&&◌, List, [], ◌∷◌}
+use Rattle.std.specs.Prelude.{ℕ, ◌≡◌, Bool, true, false, ◌&&◌, List, [], ◌∷◌, Ok, Err}
 use Rattle.machine.specs.declared.Cursor.{Cursor}
 use Rattle.machine.specs.Calls.{call, Answered, answered}
 use Rattle.rule.specs.declared.rrule.Refusal.{Refusal}
-use Rattle.rule.specs.declared.rrule.Verdict.{Verdict}
-use Rattle.rule.specs.declared.rrule.Checked.{Checked}
+use Rattle.rule.specs.Refusals.{Verdict}
+use Rattle.rule.specs.Filling.{Checked}
 use Rattle.rule.specs.declared.rrule.Rule.{Rule}
 use Rattle.rule.specs.Raw.{Raw}
 use Rattle.rule.specs.Refusals.{applies, first_of, verdict}
@@ -46,12 +46,12 @@ run_by_nine r c buffer m = answered (call (yielded_by_nine r) (periods r) c (rec
 -- Where one of 1 to 9 applies, the check answers as it did; else 10, 11 or 12 are given by their own tests.
 abbrev pub EarlierRowsFirst : Type 0
 EarlierRowsFirst = (w : Raw)
-    → ((n : Refusal) → verdict_by_nine w ≡ Verdict.Refused n → checked w ≡ checked_by_nine w)
-    × (verdict_by_nine w ≡ Verdict.Accepted → verdict w ≡ first_of (λ n. applies n w) new_rows)
+    → ((n : Refusal) → verdict_by_nine w ≡ Err n → checked w ≡ checked_by_nine w)
+    × (verdict_by_nine w ≡ Ok tt → verdict w ≡ first_of (λ n. applies n w) new_rows)
 
 -- What is accepted now was accepted, with the same record; and what none of the new rows applies to is answered as it was.
 abbrev pub StillAccepted : Type 0
-StillAccepted = (w : Raw) → (checked w).verdict ≡ Verdict.Accepted → checked_by_nine w ≡ checked w
+StillAccepted = (w : Raw) (r : Rule) → checked w ≡ Ok r → checked_by_nine w ≡ checked w
 
 -- none of the new rows applies
 pub record Untouched (w : Raw) : Type 0 where

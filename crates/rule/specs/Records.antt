@@ -1,11 +1,11 @@
 -- A record that an accepted check yields: refusal 20 is given exactly when there is none such.
 -- Assumes nothing.
-use Rattle.std.specs.Prelude.{ℕ, ◌+◌, ◌-◌, ◌/◌, ◌%◌, ◌≡◌, Bool, true, false, not, ◌&&◌, ◌||◌, List, [], ◌∷◌, map, ltb, length, take, drop, ℤ, pos, negsuc, if◌then◌else◌}
+use Rattle.std.specs.Prelude.{ℕ, ◌+◌, ◌-◌, ◌/◌, ◌%◌, ◌≡◌, Bool, true, false, not, ◌&&◌, ◌||◌, List, [], ◌∷◌, map, ltb, length, take, drop, ℤ, pos, negsuc, if◌then◌else◌, Ok, Err}
 use Rattle.std.specs.Bool.{beq}
 use Rattle.rule.specs.declared.rrule.Frequency.{Frequency}
 use Rattle.rule.specs.declared.rrule.Range.{Range}
 use Rattle.rule.specs.declared.rrule.Refusal.{Refusal}
-use Rattle.rule.specs.declared.rrule.Verdict.{Verdict}
+use Rattle.rule.specs.Refusals.{Verdict}
 use Rattle.rule.specs.declared.rrule.Rule.{Rule}
 use Rattle.rule.specs.Instants.{last_instant}
 use Rattle.rule.specs.Lists.{months, monthdays, yeardays, weeknos, nths, weekdays, hours, minutes, seconds, positions, is_empty}
@@ -53,8 +53,8 @@ as_raw r = record {
 }
 
 abbrev pub accepts : Verdict → Bool
-accepts (Verdict.Refused n) = false
-accepts Verdict.Accepted = true
+accepts (Err n) = false
+accepts (Ok tt) = true
 
 -- two sets are one
 unfoldable pub same_set : List Bool → List Bool → Bool

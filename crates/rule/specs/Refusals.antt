@@ -1,13 +1,9 @@
 -- When the panel says no: the refusals of the check. The lowest number that applies is given, and none otherwise.
 -- Assumes nothing.
-use Rattle.std.specs.Prelude.{ℕ, Bool, true, false, not, ◌&&◌, ◌||◌, List, [], ◌∷◌, length, eqb, ltb, ℤ, pos, negsuc}
+use Rattle.std.specs.Prelude.{ℕ, Bool, true, false, not, ◌&&◌, ◌||◌, List, [], ◌∷◌, length, eqb, ltb, ℤ, pos, negsuc, Option, Some, None, Result, Ok, Err}
 use Rattle.std.specs.Int.Signed.{lt_z}
-use Rattle.rule.specs.declared.rrule.Count.{Count}
-use Rattle.rule.specs.declared.rrule.Until.{Until}
 use Rattle.rule.specs.declared.rrule.Range.{Range}
-use Rattle.rule.specs.declared.rrule.Slot.{Slot}
 use Rattle.rule.specs.declared.rrule.Refusal.{Refusal}
-use Rattle.rule.specs.declared.rrule.Verdict.{Verdict}
 use Rattle.rule.specs.Instants.{last_instant}
 use Rattle.rule.specs.Lists.{months, monthdays, yeardays, weeknos, nths, weekdays, hours, minutes, seconds, positions, slot_of}
 use Rattle.rule.specs.Raw.{RawLists, Raw}
@@ -44,9 +40,9 @@ refusals =
     []
 
 -- UNTIL out of range
-abbrev pub until_out : Until → Bool
-until_out Until.Absent = false
-until_out (Until.At t) = ltb last_instant t
+abbrev pub until_out : Option ℕ → Bool
+until_out None = false
+until_out (Some t) = ltb last_instant t
 
 abbrev pub lacks : List ℤ → Bool
 lacks [] = true
@@ -58,9 +54,9 @@ some p [] = false
 some p (x ∷ xs) = p x || some p xs
 
 -- a list entry outside its range, zero included where the range excludes it
-abbrev pub is_outside : Slot → Bool
-is_outside (Slot.At i) = false
-is_outside Slot.Outside = true
+abbrev pub is_outside : Option ℕ → Bool
+is_outside (Some i) = false
+is_outside None = true
 
 abbrev pub stray_in : Range → ℤ → Bool
 stray_in g x = is_outside (slot_of g x)
@@ -157,21 +153,21 @@ positions_alone l =
     && (lacks l.bydayn && (lacks l.bydayw && (lacks l.byhour && (lacks l.byminute && lacks l.bysecond))))))))
 
 -- INTERVAL or COUNT is 0: an absent COUNT is no zero
-abbrev pub count_nought : Count → Bool
-count_nought Count.Absent = false
-count_nought (Count.Times n) = eqb n 0
+abbrev pub count_nought : Option ℕ → Bool
+count_nought None = false
+count_nought (Some n) = eqb n 0
 
-abbrev pub nought : ℕ → Count → Bool
+abbrev pub nought : ℕ → Option ℕ → Bool
 nought interval count = eqb interval 0 || count_nought count
 
 -- COUNT and UNTIL are both present
-abbrev pub has_count : Count → Bool
-has_count Count.Absent = false
-has_count (Count.Times n) = true
+abbrev pub has_count : Option ℕ → Bool
+has_count None = false
+has_count (Some n) = true
 
-abbrev pub count_and_until : Count → Until → Bool
-count_and_until count Until.Absent = false
-count_and_until count (Until.At t) = has_count count
+abbrev pub count_and_until : Option ℕ → Option ℕ → Bool
+count_and_until count None = false
+count_and_until count (Some t) = has_count count
 
 -- BYWEEKNO outside YEARLY, BYYEARDAY with DAILY, WEEKLY or MONTHLY, BYMONTHDAY with WEEKLY: by the frequency's number, and which lists are present
 abbrev pub misplaces : (freq : ℕ) (weeknos yeardays monthdays : Bool) → Bool
@@ -198,10 +194,14 @@ applies Refusal.Nought w = nought w.interval w.count
 applies Refusal.CountAndUntil w = count_and_until w.count w.until
 applies Refusal.ListMisplaced w = list_misplaced w.freq w.lists
 
+-- what the check says: it takes the rule, or refuses it
+abbrev pub Verdict : Type 0
+Verdict = Result (Unit {0}) Refusal
+
 -- the first refusal that passes a test
 unfoldable pub first_of : (Refusal → Bool) → List Refusal → Verdict
-first_of p [] = Verdict.Accepted
-first_of p (n ∷ ns) = elim (p n) [ true ↦ Verdict.Refused n | false ↦ first_of p ns ]
+first_of p [] = Ok tt
+first_of p (n ∷ ns) = elim (p n) [ true ↦ Err n | false ↦ first_of p ns ]
 
 -- The lowest number that applies is given, and none otherwise (Claims, LowestGiven and NoneGiven).
 unfoldable pub verdict : Raw → Verdict

@@ -1,14 +1,12 @@
 -- One run: the machine, given the rule's own periods.
 -- Assumes nothing.
-use Rattle.std.specs.Prelude.{ℕ, List}
+use Rattle.std.specs.Prelude.{ℕ, List, Option, Some, None}
 use Rattle.machine.specs.declared.State.{State}
 use Rattle.machine.specs.declared.Cursor.{Cursor}
 use Rattle.machine.specs.Given.{Bound, Bound.absent, Bound.present, Given}
 use Rattle.machine.specs.Cursors.{fresh, well_formed}
 use Rattle.machine.specs.Compute.{run}
 use Rattle.machine.specs.Calls.{call, Answered, answered}
-use Rattle.rule.specs.declared.rrule.Count.{Count}
-use Rattle.rule.specs.declared.rrule.Until.{Until}
 use Rattle.rule.specs.declared.rrule.Rule.{Rule}
 use Rattle.rule.specs.Instants.{second, instant}
 use Rattle.rule.specs.Records.{yielded}
@@ -16,14 +14,14 @@ use Rattle.rule.specs.Periods.{period, in_range}
 use Rattle.rule.specs.Candidates.{kept}
 use Rattle.rule.specs.Moves.{move}
 
-abbrev pub count_of : Count → Bound
-count_of Count.Absent = absent
-count_of (Count.Times n) = present n
+abbrev pub count_of : Option ℕ → Bound
+count_of None = absent
+count_of (Some n) = present n
 
 -- UNTIL is an instant; inside it is a second
-abbrev pub until_of : Until → Bound
-until_of Until.Absent = absent
-until_of (Until.At t) = present (second t)
+abbrev pub until_of : Option ℕ → Bound
+until_of None = absent
+until_of (Some t) = present (second t)
 
 -- What a run is given of its rule. What it writes of a second is the instant.
 unfoldable pub periods : Rule → Given ℕ

@@ -1,14 +1,13 @@
 -- Which instants satisfy a rule.
 -- Assumes nothing.
-use Rattle.std.specs.Prelude.{ℕ, ◌≤◌}
-use Rattle.rule.specs.declared.rrule.Until.{Until}
+use Rattle.std.specs.Prelude.{ℕ, ◌≤◌, Option, Some, None}
 use Rattle.rule.specs.declared.rrule.Rule.{Rule}
 use Rattle.rule.specs.Instants.{second, last_instant}
 use Rattle.rule.specs.Candidates.{Kept}
 
-abbrev pub NotAfter : Until → ℕ → Type 0
-NotAfter Until.Absent t = Unit {0}
-NotAfter (Until.At u) t = t ≤ u
+abbrev pub NotAfter : Option ℕ → ℕ → Type 0
+NotAfter None t = Unit {0}
+NotAfter (Some u) t = t ≤ u
 
 -- An instant satisfies the rule if it is a kept candidate of some period k, is not before the start and not after UNTIL.
 pub record Satisfies (r : Rule) (t : ℕ) : Type 0 where

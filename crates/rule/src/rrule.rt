@@ -1,6 +1,6 @@
 // The types of a rule. An instant is a count of UTC seconds since 1970-01-01T00:00:00Z.
 
-#[derive(Clone, Copy)]
+#[derive(Clone, Copy, PartialEq, Eq, PartialOrd, Ord)]
 pub enum Frequency {
     Yearly,
     Monthly,
@@ -11,20 +11,6 @@ pub enum Frequency {
     Secondly,
 }
 
-// COUNT: absent, or how often.
-#[derive(Clone, Copy)]
-pub enum Count {
-    Absent,
-    Times(u32),
-}
-
-// UNTIL: absent, or an instant.
-#[derive(Clone, Copy)]
-pub enum Until {
-    Absent,
-    At(u64),
-}
-
 // A list's range: the values -negatives..-1, then 0 if it is in the range, then 1..positives.
 #[derive(Clone, Copy)]
 pub struct Range {
@@ -33,20 +19,14 @@ pub struct Range {
     pub positives: usize,
 }
 
-// A value has a slot, counted from the lowest value of its range, or lies outside the range.
-#[derive(Clone, Copy)]
-pub enum Slot {
-    At(usize),
-    Outside,
-}
-
-// A rule record. Each list has one slot for each value that its range allows, in rising order.
+// A rule record: COUNT is how often, and UNTIL an instant, where there is one. Each list has one slot for each value that its range allows, in
+// rising order.
 #[derive(Clone, Copy)]
 pub struct Rule {
     pub freq: Frequency,
     pub interval: u16,
-    pub count: Count,
-    pub until: Until,
+    pub count: Option<u32>,
+    pub until: Option<u64>,
     pub wkst: u8,
     pub start: u64,
     pub bymonth: [bool; 12],
@@ -60,32 +40,45 @@ pub struct Rule {
     pub bysetpos: [bool; 732],
 }
 
-// Why the check says no: the rows of document 01's table, in its order.
-#[derive(Clone, Copy)]
+// Why the check says no: the rows of document 01's table, each with its number.
+#[derive(Clone, Copy, PartialEq, Eq)]
 pub enum Refusal {
-    FrequencyAbove,
-    WeekStartAbove,
-    StartOut,
-    UntilOut,
-    EntryOut,
-    NotRising,
-    MixedDays,
-    NthMisplaced,
-    PositionsAlone,
-    Nought,
-    CountAndUntil,
-    ListMisplaced,
+    FrequencyAbove = 1,
+    WeekStartAbove = 2,
+    StartOut = 3,
+    UntilOut = 4,
+    EntryOut = 5,
+    NotRising = 6,
+    MixedDays = 7,
+    NthMisplaced = 8,
+    PositionsAlone = 9,
+    Nought = 10,
+    CountAndUntil = 11,
+    ListMisplaced = 12,
 }
 
+// The lists of a rule as they are given: BYDAY's entries are pairs, whose halves stand in two lists.
 #[derive(Clone, Copy)]
-pub enum Verdict {
-    Accepted,
-    Refused(Refusal),
+pub struct ByLists<'a> {
+    pub bymonth: &'a [i16],
+    pub bymonthday: &'a [i16],
+    pub byyearday: &'a [i16],
+    pub byweekno: &'a [i16],
+    pub bydayn: &'a [i16],
+    pub bydayw: &'a [i16],
+    pub byhour: &'a [i16],
+    pub byminute: &'a [i16],
+    pub bysecond: &'a [i16],
+    pub bysetpos: &'a [i16],
 }
 
-// An enum can't hold an array, so the record stands beside the verdict: blank where the check refuses.
+// A rule as it is given, but for its start: nothing is checked, and nothing filled in.
 #[derive(Clone, Copy)]
-pub struct Checked {
-    pub verdict: Verdict,
-    pub rule: Rule,
+pub struct Unvalidated<'a> {
+    pub freq: u8,
+    pub interval: u16,
+    pub count: Option<u32>,
+    pub until: Option<u64>,
+    pub wkst: u8,
+    pub lists: ByLists<'a>,
 }

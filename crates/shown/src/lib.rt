@@ -5,7 +5,7 @@ ghost use Rattle.std.specs.Prelude.{◌<◌, ◌≤◌, max, length};
 
 use basics::rrule;
 use machine::{Cause, Cursor, State};
-use rule::rrule::{Count, Rule, Until, Verdict};
+use rule::rrule::{Rule, Verdict};
 
 // The number of a refusal, and 0 for none.
 pub fn verdict_number(verdict: Verdict) -> u64
@@ -100,12 +100,12 @@ fn numbers_of(rule: Rule) -> [u64; 7] {
     ]
 }
 
-fn write_count(count: Count, out: &mut [u8], waiting: usize) -> usize
+fn write_count(count: Option<u32>, out: &mut [u8], waiting: usize) -> usize
     ensures { result ≤ max waiting (length out.old) }
 {
     match count {
-        Count::Absent => waiting,
-        Count::Times(times) => forms::put_form(
+        None => waiting,
+        Some(times) => forms::put_form(
             forms::COUNT,
             [times as u64, 0, 0, 0, 0, 0, 0],
             out,
@@ -114,12 +114,12 @@ fn write_count(count: Count, out: &mut [u8], waiting: usize) -> usize
     }
 }
 
-fn write_until(until: Until, out: &mut [u8], waiting: usize) -> usize
+fn write_until(until: Option<u64>, out: &mut [u8], waiting: usize) -> usize
     ensures { result ≤ max waiting (length out.old) }
 {
     match until {
-        Until::Absent => waiting,
-        Until::At(instant) => forms::put_form(
+        None => waiting,
+        Some(instant) => forms::put_form(
             forms::UNTIL,
             [instant, 0, 0, 0, 0, 0, 0],
             out,

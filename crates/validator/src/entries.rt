@@ -7,7 +7,7 @@ ghost use Rattle.rule.specs.Entries.{shift, Moved, slot_at, pair_at, pair_below_
 ghost use Rattle.rule.specs.Refusals.{is_outside, strays, rises, pairs_rise, some_every, some_nth};
 
 use basics::lists::is_empty;
-use rule::rrule::{Range, Slot};
+use rule::rrule::Range;
 
 // The ranges of the lists.
 pub(crate) const MONTHS: Range = Range {
@@ -80,34 +80,34 @@ fn entry(list: &[i16], i: usize) -> usize
 }
 
 // The slot of an entry in its list's range: one function for all lists.
-fn slot_of(range: Range, up: usize) -> Slot
+fn slot_of(range: Range, up: usize) -> Option<usize>
     requires { (range.negatives ≤ 366) × (range.positives ≤ 366) }
     ensures { result ≡ slot_at range up }
 {
     if up < 32768 {
         let below = 32768 - up;
         if range.negatives < below {
-            return Slot::Outside;
+            return None;
         }
-        return Slot::At(range.negatives - below);
+        return Some(range.negatives - below);
     }
     if up == 32768 {
         return middle_slot(range);
     }
     let above = up - 32768;
     if range.positives < above {
-        return Slot::Outside;
+        return None;
     }
-    Slot::At(range.negatives + middle_slots(range) + (above - 1))
+    Some(range.negatives + middle_slots(range) + (above - 1))
 }
 
-fn middle_slot(range: Range) -> Slot
+fn middle_slot(range: Range) -> Option<usize>
     ensures { result ≡ within range.zeroin range.negatives }
 {
     if range.zeroin {
-        Slot::At(range.negatives)
+        Some(range.negatives)
     } else {
-        Slot::Outside
+        None
     }
 }
 
@@ -122,8 +122,8 @@ fn is_outside(range: Range, up: usize) -> bool
     ensures { result ≡ is_outside (slot_at range up) }
 {
     match slot_of(range, up) {
-        Slot::At(_) => false,
-        Slot::Outside => true,
+        Some(_) => false,
+        None => true,
     }
 }
 
@@ -245,22 +245,22 @@ pub(crate) fn mark_pairs(ns: &[i16], ws: &[i16], flags: &mut [bool])
 }
 
 // The slot of a pair of BYDAY.
-fn pair_slot(n: usize, w: usize) -> Slot
+fn pair_slot(n: usize, w: usize) -> Option<usize>
     ensures { result ≡ pair_at n w }
 {
-    let Slot::At(a) = slot_of(NTHS, n) else {
-        return Slot::Outside;
+    let Some(a) = slot_of(NTHS, n) else {
+        return None;
     };
-    let Slot::At(b) = slot_of(WEEKDAYS, w) else {
-        return Slot::Outside;
+    let Some(b) = slot_of(WEEKDAYS, w) else {
+        return None;
     };
-    Slot::At(a * 7 + b)
+    Some(a * 7 + b)
 }
 
-fn mark_slot(slot: Slot, flags: &mut [bool])
+fn mark_slot(slot: Option<usize>, flags: &mut [bool])
     ensures { flags.new ≡ mark flags.old slot }
 {
-    let Slot::At(i) = slot else {
+    let Some(i) = slot else {
         return;
     };
     if flags.len() <= i {
@@ -271,7 +271,7 @@ fn mark_slot(slot: Slot, flags: &mut [bool])
 
 // An empty set takes a slot, where it is to.
 pub(crate) fn take_slot(when: bool, flags: &mut [bool], slot: usize)
-    ensures { flags.new ≡ takes when flags.old (Slot.At slot) }
+    ensures { flags.new ≡ takes when flags.old (Option<usize>.At slot) }
 {
     if !when {
         return;
@@ -279,5 +279,5 @@ pub(crate) fn take_slot(when: bool, flags: &mut [bool], slot: usize)
     if !is_empty(flags) {
         return;
     }
-    mark_slot(Slot::At(slot), flags);
+    mark_slot(Some(slot), flags);
 }

@@ -6,7 +6,7 @@ use crate::entries::take_slot;
 use basics::lists::is_empty;
 use basics::rrule::frequency_number;
 use dates::utils;
-use rule::rrule::{Rule, Slot};
+use rule::rrule::Rule;
 
 // Whether BYWEEKNO, BYYEARDAY, BYMONTHDAY and BYDAY are all empty.
 pub(crate) fn no_days(rule: Rule) -> bool
@@ -18,7 +18,7 @@ pub(crate) fn no_days(rule: Rule) -> bool
 
 // A set of 12 months that takes a slot, where it is empty and is to.
 fn take_12(set: [bool; 12], when: bool, slot: usize) -> [bool; 12]
-    ensures { result ≡ takes when set (Slot.At slot) }
+    ensures { result ≡ takes when set (Option<usize>.At slot) }
 {
     let mut taken = set;
     take_slot(when, &mut taken, slot);
@@ -27,7 +27,7 @@ fn take_12(set: [bool; 12], when: bool, slot: usize) -> [bool; 12]
 
 // A set of 62 month days that takes a slot, where it is empty and is to.
 fn take_62(set: [bool; 62], when: bool, slot: usize) -> [bool; 62]
-    ensures { result ≡ takes when set (Slot.At slot) }
+    ensures { result ≡ takes when set (Option<usize>.At slot) }
 {
     let mut taken = set;
     take_slot(when, &mut taken, slot);
@@ -36,7 +36,7 @@ fn take_62(set: [bool; 62], when: bool, slot: usize) -> [bool; 62]
 
 // A set of 749 days that takes a slot, where it is empty and is to.
 fn take_749(set: [bool; 749], when: bool, slot: usize) -> [bool; 749]
-    ensures { result ≡ takes when set (Slot.At slot) }
+    ensures { result ≡ takes when set (Option<usize>.At slot) }
 {
     let mut taken = set;
     take_slot(when, &mut taken, slot);
@@ -45,7 +45,7 @@ fn take_749(set: [bool; 749], when: bool, slot: usize) -> [bool; 749]
 
 // A set of 24 hours that takes a slot, where it is empty and is to.
 fn take_24(set: [bool; 24], when: bool, slot: usize) -> [bool; 24]
-    ensures { result ≡ takes when set (Slot.At slot) }
+    ensures { result ≡ takes when set (Option<usize>.At slot) }
 {
     let mut taken = set;
     take_slot(when, &mut taken, slot);
@@ -54,7 +54,7 @@ fn take_24(set: [bool; 24], when: bool, slot: usize) -> [bool; 24]
 
 // A set of 60 minutes or seconds that takes a slot, where it is empty and is to.
 fn take_60(set: [bool; 60], when: bool, slot: usize) -> [bool; 60]
-    ensures { result ≡ takes when set (Slot.At slot) }
+    ensures { result ≡ takes when set (Option<usize>.At slot) }
 {
     let mut taken = set;
     take_slot(when, &mut taken, slot);

@@ -11,17 +11,17 @@ use crate::entries::{
 };
 use crate::filling::filled;
 use basics::rrule::{count_and_until, has_nought, is_misplaced};
-use rule::rrule::{Checked, Count, Frequency, Refusal, Rule, Until, Verdict};
+use rule::rrule::{Checked, Frequency, Refusal, Rule, Verdict};
 
 // The first instant after 9999.
 const RANGE_END: u64 = 253402300800;
 
-fn until_out(until: Until) -> bool
+fn until_out(until: Option<u64>) -> bool
     ensures { result ≡ until_out until }
 {
     match until {
-        Until::Absent => false,
-        Until::At(t) => RANGE_END <= t,
+        None => false,
+        Some(t) => RANGE_END <= t,
     }
 }
 
@@ -100,8 +100,8 @@ fn or_refused(verdict: Verdict, refusal: Refusal, applies: bool) -> Verdict
 fn given_rule(
     freq: Frequency,
     interval: u16,
-    count: Count,
-    until: Until,
+    count: Option<u32>,
+    until: Option<u64>,
     wkst: u8,
     start: u64,
     bymonth: &[i16],
@@ -212,8 +212,8 @@ fn positions_alone(
 pub fn verdict_of(
     freq: u8,
     interval: u16,
-    count: Count,
-    until: Until,
+    count: Option<u32>,
+    until: Option<u64>,
     wkst: u8,
     start: u64,
     bymonth: &[i16],
@@ -287,8 +287,8 @@ pub fn blank_rule() -> Rule
     Rule {
         freq: Frequency::Yearly,
         interval: 0,
-        count: Count::Absent,
-        until: Until::Absent,
+        count: None,
+        until: None,
         wkst: 0,
         start: 0,
         bymonth,
@@ -307,8 +307,8 @@ pub fn blank_rule() -> Rule
 pub fn check(
     freq: u8,
     interval: u16,
-    count: Count,
-    until: Until,
+    count: Option<u32>,
+    until: Option<u64>,
     wkst: u8,
     start: u64,
     bymonth: &[i16],

@@ -1,6 +1,6 @@
 -- The walk over a period's candidates, as code keeps it: in numbers.
 -- Assumes nothing.
-use Rattle.std.specs.Prelude.{ℕ, zero, suc, ◌+◌, ◌-◌, ◌*◌, ◌/◌, ◌%◌, ◌≤◌, ◌<◌, Bool, true, ◌&&◌, List, [], ◌∷◌, get_or, leb, ltb, if◌then◌else◌}
+use Rattle.std.specs.Prelude.{ℕ, zero, suc, ◌+◌, ◌-◌, ◌*◌, ◌/◌, ◌%◌, ◌≤◌, ◌<◌, Bool, true, ◌&&◌, List, [], ◌∷◌, get_or, leb, ltb, if◌then◌else◌, Option, Some, None}
 use Rattle.machine.specs.declared.Cause.{Cause}
 use Rattle.machine.specs.declared.State.{State}
 use Rattle.machine.specs.declared.Stop.{Stop}
@@ -8,7 +8,6 @@ use Rattle.machine.specs.declared.Cursor.{Cursor}
 use Rattle.machine.specs.Given.{Bound, Bound.absent, Bound.present, Move.NoTick, Given}
 use Rattle.machine.specs.Run.{Now}
 use Rattle.machine.specs.Compute as compute
-use Rattle.rule.specs.declared.rrule.Until.{Until}
 use Rattle.rule.specs.Instants.{instant}
 use Rattle.rule.specs.Run.{count_of}
 use Rattle.times.specs.TimeSets.{time_at}
@@ -19,9 +18,9 @@ use Rattle.walks.specs.declared.rrule_iter.Bounds.{Bounds}
 use Rattle.walks.specs.declared.rrule_iter.Frame.{Frame}
 
 -- UNTIL as a second
-abbrev pub bound_of : Until → Bound
-bound_of Until.Absent = absent
-bound_of (Until.At s) = present s
+abbrev pub bound_of : Option ℕ → Bound
+bound_of None = absent
+bound_of (Some s) = present s
 
 -- what a walk needs of what a run is given: the bounds, and what is written
 unfoldable pub given_by : Bounds → Given ℕ

@@ -3,7 +3,7 @@ ghost use Rattle.std.specs.Prelude.{◌≡◌, ◌+◌, ◌*◌, ◌%◌, ◌<�
 ghost use Rattle.walks.specs.Walks.{Bytes, in_year, is_framed, second_on, second_at, candidate_at};
 
 use machine::Cursor;
-use rule::rrule::{Count, Frequency, Until};
+use rule::rrule::Frequency;
 use times::iterinfo::{Counts, quotient, time_at};
 
 // Why a walk has stopped; Through where no candidate remains.
@@ -34,8 +34,8 @@ pub struct Walked {
 #[derive(Clone, Copy)]
 pub struct Bounds {
     pub start: u64,
-    pub until: Until,
-    pub count: Count,
+    pub until: Option<u64>,
+    pub count: Option<u32>,
 }
 
 // A period's candidates: their days are places of the year that begins on the day first, their times are told by number.

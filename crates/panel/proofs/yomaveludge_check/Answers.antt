@@ -26,7 +26,7 @@ returns-then-put_record c =
     (raw_lists a.bymonth.now a.bymonthday.now a.byyearday.now a.byweekno.now a.bydayn.now a.bydayw.now
     a.byhour.now a.byminute.now a.bysecond.now a.bysetpos.now)
     k.check-checked.result a.rulebytes.now k.count_from.ensures k.until_from.ensures k.check-checked.ensures
-    _ told.in-Accepted.is done.0 done.1
+    _ told.in-Ok.is done.0 done.1
 
 pub returns-else-put_record : goal.returns-else-put_record
 returns-else-put_record c =
@@ -39,4 +39,4 @@ returns-else-put_record c =
     (raw_lists a.bymonth.now a.bymonthday.now a.byyearday.now a.byweekno.now a.bydayn.now a.bydayw.now
     a.byhour.now a.byminute.now a.bysecond.now a.bysetpos.now)
     k.check-checked.result a.rulebytes.now k.count_from.ensures k.until_from.ensures k.check-checked.ensures
-    _ told.in-Accepted.is done.0 done.1
+    _ told.in-Ok.is done.0 done.1

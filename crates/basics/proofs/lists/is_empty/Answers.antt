@@ -5,15 +5,15 @@ use mathlib.Core.Path.{refl, sym, ◌∙◌}
 use Rattle.rule.proofs.EntryLaws.{empty_next, empty_done}
 use Rattle.basics.proofs.lists.is_empty.Goals as goal
 
-pub loop-i-init : goal.loop-i-init
-loop-i-init c = (search rules, refl)
+pub loop-flag-init : goal.loop-flag-init
+loop-flag-init c = (search rules, refl)
 
-pub loop-i-preserved : goal.loop-i-preserved
-loop-i-preserved c =
+pub loop-flag-preserved : goal.loop-flag-preserved
+loop-flag-preserved c =
     let l = c in
-    (search rules, l.loop-i.invariant.1 ∙ empty_next l.loop-i.found l.args.flags.now l.loop-i.i (search rules))
+    (search rules, l.loop-flag.invariant.1 ∙ empty_next l.loop-flag.found l.args.flags.now l.loop-flag.flag-index (search rules))
 
 pub returns : goal.returns
 returns c =
     let l = c in
-    sym (l.loop-i.invariant.1 ∙ empty_done l.loop-i.found l.args.flags.now l.loop-i.i (search rules))
+    sym (l.loop-flag.invariant.1 ∙ empty_done l.loop-flag.found l.args.flags.now l.loop-flag.flag-index (search rules))

@@ -7,8 +7,5 @@ use lib.ListN.{length, drop}
 use Rattle.rule.specs.Lists.{is_empty}
 use Rattle.basics.proofs.lists.is_empty.Given as goal
 
-abbrev pub invariant-loop-i : goal.invariant-loop-i
-invariant-loop-i l = (l.i ≤ length l.flags) × (is_empty l.flags ≡ not l.found && is_empty (drop l.i l.flags))
-
-abbrev pub decreases-loop-i : goal.decreases-loop-i
-decreases-loop-i l = length l.flags - l.i
+abbrev pub invariant-loop-flag : goal.invariant-loop-flag
+invariant-loop-flag l = (l.flag-index ≤ length l.flags) × (is_empty l.flags ≡ not l.found && is_empty (drop l.flag-index l.flags))

@@ -5,4 +5,4 @@ use Rattle.calendar.proofs.utils.days_before_year.Goals as goal
 
 pub returns : goal.returns
 unfolding new_year
-returns c = rw c.one_less-past.ensures
+returns c = rw c.saturating_sub-past.ensures

@@ -23,4 +23,4 @@ days_over z a b d e =
 
 pub returns : goal.returns
 unfolding new_year
-returns c = rw (← c.one_less-past.ensures) (days_over c.one_less-past.result _ _ (omega arith) (omega arith))
+returns c = rw (← c.saturating_sub-past.ensures) (days_over c.saturating_sub-past.result _ _ (omega arith) (omega arith))

@@ -1,8 +1,8 @@
 -- `display::rrule::write` meets its contract.
 -- Assumes nothing.
-use Rattle.std.proofs.Common.{rules}
+use Rattle.std.proofs.Common.{rules, Ok}
 use mathlib.Core.Path.{◌≡◌, refl, sym, ◌∙◌}
-use Rattle.rule.specs.declared.rrule.Verdict.{Verdict}
+use Rattle.rule.specs.Refusals.{Verdict}
 use Rattle.rule.specs.Raw.{Raw, raw, raw_lists}
 use Rattle.rule.specs.Refusals.{verdict}
 use Rattle.display.proofs.Ranges.{count_in_range}
@@ -22,8 +22,8 @@ accepted : (c : In-Accepted) → (let a = c.args in
     verdict (raw a.freq a.interval a.count a.until a.wkst 0
     (raw_lists a.bymonth.now a.bymonthday.now a.byyearday.now a.byweekno.now a.bydayn.now a.bydayw.now
     a.byhour.now a.byminute.now a.bysecond.now a.bysetpos.now))
-    ≡ Verdict.Accepted)
-accepted c = sym c.verdict_of.ensures ∙ c.in-Accepted.is
+    ≡ Ok tt)
+accepted c = sym c.verdict_of.ensures ∙ c.in-Ok.is
 
 pub write_fitting-requires : goal.write_fitting-requires
 write_fitting-requires c =
@@ -39,9 +39,9 @@ returns-in-Refused c =
     let start = judged in
     told_refused (rule (goal.at.returns-in-Refused c).Start) _ _ (sym judged.verdict_of.ensures ∙ c.in-Refused.is)
 
-pub returns-in-Accepted : goal.returns-in-Accepted
-returns-in-Accepted c =
+pub returns-in-Ok : goal.returns-in-Ok
+returns-in-Ok c =
     let put = c in
     let told = put in
     let start = told in
-    told_accepted (rule (goal.at.returns-in-Accepted c).Start) _ _ _ (accepted (goal.at.returns-in-Accepted c).In-Accepted) put.write_fitting.ensures
+    told_accepted (rule (goal.at.returns-in-Ok c).Start) _ _ _ (accepted (goal.at.returns-in-Ok c).In-Accepted) put.write_fitting.ensures

@@ -1,12 +1,12 @@
 -- `plans::plan::plan_of` meets its contract.
 -- Assumes nothing.
+use Rattle.std.specs.Prelude.{Option}
 use Prim.Native.Nat.{ℕ}
 use mathlib.Core.Path.{◌≡◌, refl}
 use mathlib.Core.Bool.{Bool, true, false, not, ◌&&◌}
 use mathlib.Core.List.{List}
 use lib.Dec.{eqb}
 use Rattle.rule.specs.declared.rrule.Rule.{Rule}
-use Rattle.rule.specs.declared.rrule.Until.{Until}
 use Rattle.rule.specs.Lists.{is_empty}
 use Rattle.rule.specs.Filling.{frequency_number}
 use Rattle.years.specs.declared.lists.Asked.{Asked}
@@ -22,7 +22,7 @@ not_not true = refl
 not_not false = refl
 
 -- the plan from its parts, as the code works them out
-put_together : (r : Rule) (asked : Asked) (clock : List Bool) (sets : TimeSet) (start number : ℕ) (until : Until) (empty : Bool)
+put_together : (r : Rule) (asked : Asked) (clock : List Bool) (sets : TimeSet) (start number : ℕ) (until : Option ℕ) (empty : Bool)
     → asked ≡ asked_of r
     → clock ≡ clock_of r.byhour r.byminute r.bysecond
     → sets ≡ timeset_of clock

@@ -1,8 +1,8 @@
 -- `validator::entries::pair_slot` meets its contract.
 -- Assumes nothing.
+use Rattle.std.specs.Prelude.{Option, Some}
 use mathlib.Core.Path.{◌≡◌, sym, ap, ◌∙◌}
 use native.Mathlib.Omega.{arith}
-use Rattle.rule.specs.declared.rrule.Slot.{Slot}
 use Rattle.rule.specs.Lists.{nths, weekdays, beside}
 use Rattle.rule.specs.Entries.{slot_at, pair_at}
 use Rattle.rule.proofs.EntryLaws.{slot_high}
@@ -13,21 +13,21 @@ pub returns-in_default : goal.returns-in_default
 unfolding pair_at
 returns-in_default c =
     let a = c.args in
-    sym (ap (λ (s : Slot). beside s (slot_at weekdays a.w)) (sym c.slot_of.ensures ∙ c.in_default.is))
+    sym (ap (λ (s : Option ℕ). beside s (slot_at weekdays a.w)) (sym c.slot_of.ensures ∙ c.in_default.is))
 
 pub returns-in_default-slot_of : goal.returns-in_default-slot_of
 unfolding pair_at
 returns-in_default-slot_of c =
     let o = c in
     sym
-    (ap (λ (s : Slot). beside s (slot_at weekdays o.args.w)) (sym o.slot_of.ensures ∙ c.in-At.is)
-    ∙ ap (beside (Slot.At _)) (sym c.slot_of-2.ensures ∙ c.in_default-slot_of.is))
+    (ap (λ (s : Option ℕ). beside s (slot_at weekdays o.args.w)) (sym o.slot_of.ensures ∙ c.in-At.is)
+    ∙ ap (beside (Some _)) (sym c.slot_of-2.ensures ∙ c.in_default-slot_of.is))
 
 -- the slots of n and of the weekday
-first : (c : In-At-slot_of) → slot_at nths c.args.n ≡ Slot.At c.in-At.a
+first : (c : In-At-slot_of) → slot_at nths c.args.n ≡ Some c.in-At.a
 first c = sym c.slot_of.ensures ∙ c.in-At.is
 
-second : (c : In-At-slot_of) → slot_at weekdays c.args.w ≡ Slot.At c.in-At-slot_of.b
+second : (c : In-At-slot_of) → slot_at weekdays c.args.w ≡ Some c.in-At-slot_of.b
 second c = sym c.slot_of-2.ensures ∙ c.in-At-slot_of.is
 
 pub overflow_mul-result : goal.overflow_mul-result
@@ -41,5 +41,5 @@ unfolding pair_at
 returns c =
     let o = c in
     sym
-    (ap (λ (s : Slot). beside s (slot_at weekdays o.args.w)) (first c)
-    ∙ ap (beside (Slot.At _)) (second c))
+    (ap (λ (s : Option ℕ). beside s (slot_at weekdays o.args.w)) (first c)
+    ∙ ap (beside (Some _)) (second c))

@@ -12,12 +12,12 @@ pub filled-rule-requires : goal.filled-rule-requires
 unfolding given_as
 filled-rule-requires c =
     let told = c in
-    rw c.given_rule-given.ensures (start_in_range _ (sym told.verdict_of-verdict.ensures ∙ told.in-Accepted.is))
+    rw c.given_rule-given.ensures (start_in_range _ (sym told.verdict_of-verdict.ensures ∙ told.in-Ok.is))
 
 pub returns : goal.returns
 returns c =
     let given = c in
     let frequency = given in
     let told = frequency in
-    accepted _ _ _ _ _ told.verdict_of-verdict.ensures told.in-Accepted.is frequency.frequency_of.ensures given.given_rule-given.ensures
+    accepted _ _ _ _ _ told.verdict_of-verdict.ensures told.in-Ok.is frequency.frequency_of.ensures given.given_rule-given.ensures
     c.filled-rule.ensures

@@ -9,8 +9,8 @@ returns-in_default c = rw c.in_default.is
 
 pub returns-then-applies : goal.returns-then-applies
 unfolding or_refused
-returns-then-applies c = rw (c.in-Accepted.is, c.if-applies.true)
+returns-then-applies c = rw (c.in-Ok.is, c.if-applies.true)
 
 pub returns : goal.returns
 unfolding or_refused
-returns c = rw (c.in-Accepted.is, c.if-applies.false)
+returns c = rw (c.in-Ok.is, c.if-applies.false)

@@ -1,0 +1,33 @@
+-- `basics::rrule::frequency_of` meets its contract.
+-- Assumes nothing.
+use Rattle.std.proofs.Common.{arith}
+use Rattle.rule.specs.Filling.{frequency}
+use Rattle.basics.proofs.rrule.frequency_of.Goals as goal
+
+pub returns-in-0 : goal.returns-in-0
+unfolding frequency
+returns-in-0 c = rw c.in-0.is
+
+pub returns-in-1 : goal.returns-in-1
+unfolding frequency
+returns-in-1 c = rw c.in-1.is
+
+pub returns-in-2 : goal.returns-in-2
+unfolding frequency
+returns-in-2 c = rw c.in-2.is
+
+pub returns-in-3 : goal.returns-in-3
+unfolding frequency
+returns-in-3 c = rw c.in-3.is
+
+pub returns-in-4 : goal.returns-in-4
+unfolding frequency
+returns-in-4 c = rw c.in-4.is
+
+pub returns-in-5 : goal.returns-in-5
+unfolding frequency
+returns-in-5 c = rw c.in-5.is
+
+pub returns-in_default : goal.returns-in_default
+unfolding frequency
+returns-in_default c = grind arith
