@@ -318,11 +318,11 @@ OF_COUNT = (  # what is told of it, its line, the line instead, and the table
     ("INTERVAL 0 taken", "nought interval count = eqb interval 0 || count_nought count", "nought interval count = count_nought count", "nought"),
     ("INTERVAL 1 refused", "= eqb interval 0 ||", "= ltb interval 2 ||", "nought"),
     ("COUNT 0 taken", "nought interval count = eqb interval 0 || count_nought count", "nought interval count = eqb interval 0", "nought"),
-    ("COUNT 1 refused", "count_nought (Count.Times n) = eqb n 0", "count_nought (Count.Times n) = ltb n 2", "nought"),
-    ("an absent COUNT is 0", "count_nought Count.Absent = false", "count_nought Count.Absent = true", "nought"),
-    ("COUNT alone refused", "count_and_until count Until.Absent = false", "count_and_until count Until.Absent = has_count count", "count-and-until"),
-    ("UNTIL alone refused", "count_and_until count (Until.At t) = has_count count", "count_and_until count (Until.At t) = true", "count-and-until"),
-    ("COUNT 1 beside UNTIL taken", "has_count (Count.Times n) = true", "has_count (Count.Times n) = ltb 1 n", "count-and-until"),
+    ("COUNT 1 refused", "count_nought (Some n) = eqb n 0", "count_nought (Some n) = ltb n 2", "nought"),
+    ("an absent COUNT is 0", "count_nought None = false", "count_nought None = true", "nought"),
+    ("COUNT alone refused", "count_and_until count None = false", "count_and_until count None = has_count count", "count-and-until"),
+    ("UNTIL alone refused", "count_and_until count (Some t) = has_count count", "count_and_until count (Some t) = true", "count-and-until"),
+    ("COUNT 1 beside UNTIL taken", "has_count (Some n) = true", "has_count (Some n) = ltb 1 n", "count-and-until"),
 )
 MISPLACED = {  # the list: its name, and its test
     "weekno": ("week-number", "weeknos && not (eqb freq 0)"),

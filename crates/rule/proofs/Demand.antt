@@ -225,4 +225,4 @@ unfolding checked
 interval_follows w r e = interval_above w (answered_verdict (verdict w) (fill (given w)) r e)
 
 pub demand_three_before : DemandThreeBefore
-demand_three_before w r e one calls = demand_three w r e calls
+demand_three_before w r e _ calls = demand_three w r e calls
