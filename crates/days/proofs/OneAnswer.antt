@@ -14,7 +14,7 @@ pub is_filtered_has_one : Determines 2 is-filtered-kinds.ps is-filtered-kinds.r 
 is_filtered_has_one κs a x y e f = one_answer
 
 pub get_dayset_has_one : DeterminesBuffer 3 get-dayset-kinds.ps get-dayset-kinds.r (List ℕ)
-    (λ κs e. e.1.1.1.1.1.1.1.1.1.1.1.1.1.0.now) get-dayset.Post
+    (λ κs e. e.1.1.1.1.1.0.now) get-dayset.Post
 get_dayset_has_one κs a x y e f p q = (one_answer p.0 q.0, one_answer p.1 q.1)
 
 -- and none asks anything of its callers

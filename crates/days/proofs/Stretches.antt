@@ -15,7 +15,6 @@ use Rattle.rule.specs.Candidates.{gather}
 use Rattle.rule.proofs.GivenLaws.{neither}
 use Rattle.clocks.specs.Blocks.{passing}
 use Rattle.clocks.proofs.Tied.{passing_same}
-use Rattle.weeks.specs.declared.yearinfo.Year.{Year}
 use Rattle.years.specs.declared.lists.Asked.{Asked}
 use Rattle.years.specs.declared.iterinfo.IterInfo.{IterInfo}
 use Rattle.nths.specs.Masks.{in_tables}
@@ -165,7 +164,7 @@ module _ (a : Asked) (info : IterInfo) (l : DayLists) (from to : ℕ) where
 
   -- where nothing else is asked, the first of three lists decides
   pub by_sole : is_plain a ≡ false → is_mixed a ≡ false → a.month ≡ false
-      → day_set a info l from to ≡ sole_days a info.year l.byyearday l.byday info.weeks info.nths from (min to (days_of info.year.long + 7))
+      → day_set a info l from to ≡ sole_days a info l from (min to (days_of info.year.long + 7))
   unfolding sole_days
   by_sole p h m = go a.yearday a.weekno refl refl
     where
@@ -180,28 +179,28 @@ module _ (a : Asked) (info : IterInfo) (l : DayLists) (from to : ℕ) where
       go false true e f = by_weeks h m e f
       go false false e f = by_weekday p h m e f
 
-module _ (a : Asked) (year : Year) (byyearday byday weeks nths : List Bool) (from end : ℕ) where
-  pub sole_none : end ≤ from → sole_days a year byyearday byday weeks nths from end ≡ []
+module _ (a : Asked) (info : IterInfo) (l : DayLists) (from end : ℕ) where
+  pub sole_none : end ≤ from → sole_days a info l from end ≡ []
   unfolding sole_days
   sole_none h = go a.yearday a.weekno
     where
-      go : (x k : Bool) → (if x then year_days year.long year.nextlong byyearday from end
-          else if k then marked_days weeks from end
-          else weekday_days a.nth year.first byday nths from end) ≡ []
-      go true k = passing_done (yearday_at year.long year.nextlong byyearday) end from h
-      go false true = passing_done (λ i. get_or weeks i false) end from h
-      go false false = passing_done (weekday_at a.nth year.first byday nths) end from h
+      go : (x k : Bool) → (if x then year_days info.year.long info.year.nextlong l.byyearday from end
+          else if k then marked_days info.weeks from end
+          else weekday_days a.nth info.year.first l.byday info.nths from end) ≡ []
+      go true k = passing_done (yearday_at info.year.long info.year.nextlong l.byyearday) end from h
+      go false true = passing_done (λ i. get_or info.weeks i false) end from h
+      go false false = passing_done (weekday_at a.nth info.year.first l.byday info.nths) end from h
 
-  pub sole_year_days : a.yearday ≡ true → sole_days a year byyearday byday weeks nths from end ≡ year_days year.long year.nextlong byyearday from end
+  pub sole_year_days : a.yearday ≡ true → sole_days a info l from end ≡ year_days info.year.long info.year.nextlong l.byyearday from end
   unfolding sole_days
   sole_year_days h = rw h
 
-  pub sole_weeks : a.yearday ≡ false → a.weekno ≡ true → sole_days a year byyearday byday weeks nths from end ≡ marked_days weeks from end
+  pub sole_weeks : a.yearday ≡ false → a.weekno ≡ true → sole_days a info l from end ≡ marked_days info.weeks from end
   unfolding sole_days
   sole_weeks x h = rw (x, h)
 
   pub sole_weekdays : a.yearday ≡ false → a.weekno ≡ false
-      → sole_days a year byyearday byday weeks nths from end ≡ weekday_days a.nth year.first byday nths from end
+      → sole_days a info l from end ≡ weekday_days a.nth info.year.first l.byday info.nths from end
   unfolding sole_days
   sole_weekdays x h = rw (x, h)
 

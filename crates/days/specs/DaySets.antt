@@ -2,7 +2,6 @@
 -- Assumes nothing.
 use Rattle.std.specs.Prelude.{ℕ, ◌+◌, ◌-◌, ◌≤◌, ◌<◌, min, ◌≡◌, Bool, true, false, ◌||◌, List, get_or, if◌then◌else◌}
 use Rattle.clocks.specs.Blocks.{passing}
-use Rattle.weeks.specs.declared.yearinfo.Year.{Year}
 use Rattle.years.specs.declared.lists.Asked.{Asked}
 use Rattle.years.specs.declared.iterinfo.IterInfo.{IterInfo}
 use Rattle.days.specs.Filters.{DayLists, yearday_at, weekday_at, place_passes}
@@ -34,12 +33,12 @@ unfolding passing weekday_at
 weekday_days nth first byday nths from end = passing (weekday_at nth first byday nths) (end - from) from
 
 -- The day set by the first of BYYEARDAY, BYWEEKNO and BYDAY that is asked.
-unfoldable pub sole_days : Asked → Year → (byyearday byday weeks nths : List Bool) → (from end : ℕ) → List ℕ
+unfoldable pub sole_days : Asked → IterInfo → DayLists → (from end : ℕ) → List ℕ
 unfolding year_days marked_days weekday_days
-sole_days a year byyearday byday weeks nths from end =
-    if a.yearday then year_days year.long year.nextlong byyearday from end
-    else if a.weekno then marked_days weeks from end
-    else weekday_days a.nth year.first byday nths from end
+sole_days a info l from end =
+    if a.yearday then year_days info.year.long info.year.nextlong l.byyearday from end
+    else if a.weekno then marked_days info.weeks from end
+    else weekday_days a.nth info.year.first l.byday info.nths from end
 
 -- r is the first place from `from` on that is marked, or `to`.
 pub record FirstMarked (marks : List Bool) (from to r : ℕ) : Type 0 where

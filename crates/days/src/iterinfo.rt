@@ -1,48 +1,33 @@
 // Day sets.
 ghost use Rattle.std.specs.Prelude.{◌≡◌, ◌+◌, ◌≤◌, ◌<◌, min, length, set, if◌then◌else◌};
 ghost use Rattle.std.proofs.lemmas.List.Edits.{sets};
-ghost use Rattle.years.specs.Info.{info_by};
-ghost use Rattle.days.specs.Filters.{day_lists};
+ghost use Rattle.days.specs.Filters.{rule_lists};
 ghost use Rattle.calendar.specs.Calendar.{days_of};
 ghost use Rattle.days.specs.DaySets.{day_set, some_of_four, FirstMarked, has_every, marked_days, year_days, weekday_days, sole_days};
 
 use crate::filters::{is_filtered, is_filtered_by_year_day, is_filtered_on};
 use crate::places::{next_weekday, weekday_at};
 use plain::iterinfo::{days_by_month, is_mixed, is_plain, plain_days, stretch_end};
-use weeks::yearinfo::Year;
+use rule::rrule::Rule;
+use years::iterinfo::IterInfo;
 use years::lists::Asked;
 
 // The passing places of a stretch, by all the filters, day by day.
-fn filtered_days<'a, 'b>(
+fn filtered_days(
     asked: Asked,
-    year: Year,
+    rule: &Rule,
+    info: &IterInfo,
     from: usize,
     to: usize,
-    bymonth: &'a [bool; 12],
-    bymonthday: &'a [bool; 62],
-    byyearday: &'a [bool; 732],
-    byday: &'a [bool; 749],
-    months: &'b [u8; 373],
-    monthdays: &'b [u8; 373],
-    fromends: &'b [u8; 373],
-    weeks: &'b [bool; 373],
-    nths: &'b [bool; 373],
     days: &mut [u16; 373],
 ) -> usize
-    ensures count { result ≡ length (day_set asked
-        (info_by year months.now monthdays.now fromends.now weeks.now nths.now)
-        (day_lists bymonth.now bymonthday.now byyearday.now byday.now) from to) }
-    ensures places { days.new ≡ sets days.old 0 (day_set asked
-        (info_by year months.now monthdays.now fromends.now weeks.now nths.now)
-        (day_lists bymonth.now bymonthday.now byyearday.now byday.now) from to) }
+    ensures count { result ≡ length (day_set asked info.now (rule_lists rule.now) from to) }
+    ensures places { days.new ≡ sets days.old 0 (day_set asked info.now (rule_lists rule.now) from to) }
 {
-    let stop = stretch_end(year.long, to);
+    let stop = stretch_end(info.year.long, to);
     let mut count: usize = 0;
     for place in from..stop {
-        if is_filtered(
-            asked, year, place, bymonth, bymonthday, byyearday, byday, months, monthdays, fromends,
-            weeks, nths,
-        ) {
+        if is_filtered(asked, rule, info, place) {
             continue;
         }
         days[count] = place as u16;
@@ -126,44 +111,38 @@ fn keep(days: &mut [u16; 373], kept: usize, place: usize, out: bool) -> usize
 }
 
 // The places of a stretch that pass BYYEARDAY.
-fn year_days(
-    long: bool,
-    nextlong: bool,
-    from: usize,
-    end: usize,
-    byyearday: &[bool; 732],
-    days: &mut [u16; 373],
-) -> usize
-    requires { (end ≤ 373) × (end ≤ days_of long + 7) }
-    ensures count { result ≡ length (year_days long nextlong byyearday.now from end) }
-    ensures places { days.new ≡ sets days.old 0 (year_days long nextlong byyearday.now from end) }
+fn year_days(rule: &Rule, info: &IterInfo, from: usize, end: usize, days: &mut [u16; 373]) -> usize
+    requires { (end ≤ 373) × (end ≤ days_of info.now.year.long + 7) }
+    ensures count { result ≡ length (year_days info.now.year.long info.now.year.nextlong rule.now.byyearday from end) }
+    ensures places { days.new
+        ≡ sets days.old 0 (year_days info.now.year.long info.now.year.nextlong rule.now.byyearday from end) }
 {
     let mut found: usize = 0;
     for place in from..end {
-        let out = is_filtered_by_year_day(true, long, nextlong, place, byyearday);
+        let out = is_filtered_by_year_day(true, rule, info, place);
         found = keep(days, found, place, out);
     }
     found
 }
 
 // The places of a stretch that pass BYDAY. The weekday is carried from day to day.
-fn weekday_days<'a, 'b>(
+fn weekday_days(
     nth: bool,
-    first: u64,
+    rule: &Rule,
+    info: &IterInfo,
     from: usize,
     end: usize,
-    byday: &'a [bool; 749],
-    nths: &'b [bool; 373],
     days: &mut [u16; 373],
 ) -> usize
     requires { (from < end) × (end ≤ 373) }
-    ensures count { result ≡ length (weekday_days nth first byday.now nths.now from end) }
-    ensures places { days.new ≡ sets days.old 0 (weekday_days nth first byday.now nths.now from end) }
+    ensures count { result ≡ length (weekday_days nth info.now.year.first rule.now.byday info.now.nths from end) }
+    ensures places { days.new
+        ≡ sets days.old 0 (weekday_days nth info.now.year.first rule.now.byday info.now.nths from end) }
 {
     let mut passed: usize = 0;
-    let mut weekday = weekday_at(first, from);
+    let mut weekday = weekday_at(info.year.first, from);
     for place in from..end {
-        let out = is_filtered_on(nth, weekday, place, byday, nths);
+        let out = is_filtered_on(nth, rule, info, weekday, place);
         passed = keep(days, passed, place, out);
         weekday = next_weekday(weekday);
     }
@@ -171,74 +150,55 @@ fn weekday_days<'a, 'b>(
 }
 
 // The day set where BYYEARDAY, BYWEEKNO or BYDAY alone is asked. Where BYDAY has no entry for every weekday, the mask of the nths decides.
-fn sole_days<'a, 'b>(
+fn sole_days(
     asked: Asked,
-    year: Year,
+    rule: &Rule,
+    info: &IterInfo,
     from: usize,
     to: usize,
-    byyearday: &'a [bool; 732],
-    byday: &'a [bool; 749],
-    weeks: &'b [bool; 373],
-    nths: &'b [bool; 373],
     days: &mut [u16; 373],
 ) -> usize
-    ensures count { result ≡ length (sole_days asked year
-        byyearday.now byday.now weeks.now nths.now from (min to (days_of year.long + 7))) }
-    ensures places { days.new ≡ sets days.old 0 (sole_days asked year
-        byyearday.now byday.now weeks.now nths.now from (min to (days_of year.long + 7))) }
+    ensures count { result ≡ length (sole_days asked info.now (rule_lists rule.now) from (min to (days_of info.now.year.long + 7))) }
+    ensures places { days.new
+        ≡ sets days.old 0 (sole_days asked info.now (rule_lists rule.now) from (min to (days_of info.now.year.long + 7))) }
 {
-    let end = stretch_end(year.long, to);
+    let end = stretch_end(info.year.long, to);
     if end <= from {
         return 0;
     }
     if asked.yearday {
-        return year_days(year.long, year.nextlong, from, end, byyearday, days);
+        return year_days(rule, info, from, end, days);
     }
     if asked.weekno {
-        return marked_days(weeks, from, end, days);
+        return marked_days(&info.weeks, from, end, days);
     }
-    if asked.nth & !has_every(byday) {
-        return marked_days(nths, from, end, days);
+    if asked.nth & !has_every(&rule.byday) {
+        return marked_days(&info.nths, from, end, days);
     }
-    weekday_days(asked.nth, year.first, from, end, byday, nths, days)
+    weekday_days(asked.nth, rule, info, from, end, days)
 }
 
 // The passing days of a stretch of a year's tables, as their places in order, and how many there are. The slots behind them stay.
 // Where one list is asked, its test alone decides.
-pub fn get_dayset<'a, 'b>(
+pub fn get_dayset(
     asked: Asked,
-    year: Year,
+    rule: &Rule,
+    info: &IterInfo,
     from: usize,
     to: usize,
-    bymonth: &'a [bool; 12],
-    bymonthday: &'a [bool; 62],
-    byyearday: &'a [bool; 732],
-    byday: &'a [bool; 749],
-    months: &'b [u8; 373],
-    monthdays: &'b [u8; 373],
-    fromends: &'b [u8; 373],
-    weeks: &'b [bool; 373],
-    nths: &'b [bool; 373],
     days: &mut [u16; 373],
 ) -> usize
-    ensures count { result ≡ length (day_set asked
-        (info_by year months.now monthdays.now fromends.now weeks.now nths.now)
-        (day_lists bymonth.now bymonthday.now byyearday.now byday.now) from to) }
-    ensures places { days.new ≡ sets days.old 0 (day_set asked
-        (info_by year months.now monthdays.now fromends.now weeks.now nths.now)
-        (day_lists bymonth.now bymonthday.now byyearday.now byday.now) from to) }
+    ensures count { result ≡ length (day_set asked info.now (rule_lists rule.now) from to) }
+    ensures places { days.new ≡ sets days.old 0 (day_set asked info.now (rule_lists rule.now) from to) }
 {
     if is_plain(asked) {
-        return plain_days(year.long, from, to, days);
+        return plain_days(info.year.long, from, to, days);
     }
     if is_mixed(asked) {
-        return filtered_days(
-            asked, year, from, to, bymonth, bymonthday, byyearday, byday, months, monthdays,
-            fromends, weeks, nths, days,
-        );
+        return filtered_days(asked, rule, info, from, to, days);
     }
     if asked.month {
-        return days_by_month(year.long, from, to, bymonth, months, days);
+        return days_by_month(rule, info, from, to, days);
     }
-    sole_days(asked, year, from, to, byyearday, byday, weeks, nths, days)
+    sole_days(asked, rule, info, from, to, days)
 }

@@ -38,7 +38,7 @@ stretch_end_has_one κs a x y e f = one_answer
 pub plain_days_has_one : DeterminesBuffer 1 plain-days-kinds.ps plain-days-kinds.r (List ℕ) (λ κs e. e.1.1.1.0.now) plain-days.Post
 plain_days_has_one κs a x y e f p q = (one_answer p.0 q.0, one_answer p.1 q.1)
 
-pub days_by_month_has_one : DeterminesBuffer 3 days-by-month-kinds.ps days-by-month-kinds.r (List ℕ) (λ κs e. e.1.1.1.1.1.0.now) days-by-month.Post
+pub days_by_month_has_one : DeterminesBuffer 3 days-by-month-kinds.ps days-by-month-kinds.r (List ℕ) (λ κs e. e.1.1.1.1.0.now) days-by-month.Post
 days_by_month_has_one κs a x y e f p q = (one_answer p.0 q.0, one_answer p.1 q.1)
 
 -- and none asks anything of its callers

@@ -6,6 +6,8 @@ ghost use Rattle.plain.specs.DaySets.{is_plain, is_month_alone, is_mixed, all_da
 
 use crate::filters::has_month;
 use nths::places::days_of;
+use rule::rrule::Rule;
+use years::iterinfo::IterInfo;
 use years::lists::Asked;
 
 // Whether no list is asked.
@@ -55,21 +57,21 @@ pub fn plain_days(long: bool, from: usize, to: usize, days: &mut [u16; 373]) -> 
 
 // The day set where BYMONTH alone is asked: the places of a stretch that pass it.
 pub fn days_by_month(
-    long: bool,
+    rule: &Rule,
+    info: &IterInfo,
     from: usize,
     to: usize,
-    bymonth: &[bool; 12],
-    months: &[u8; 373],
     days: &mut [u16; 373],
 ) -> usize
-    ensures count { result ≡ length (month_days months.now bymonth.now from (min to (days_of long + 7))) }
+    ensures count { result
+        ≡ length (month_days info.now.months rule.now.bymonth from (min to (days_of info.now.year.long + 7))) }
     ensures places { days.new
-        ≡ sets days.old 0 (month_days months.now bymonth.now from (min to (days_of long + 7))) }
+        ≡ sets days.old 0 (month_days info.now.months rule.now.bymonth from (min to (days_of info.now.year.long + 7))) }
 {
-    let stop = stretch_end(long, to);
+    let stop = stretch_end(info.year.long, to);
     let mut taken: usize = 0;
     for place in from..stop {
-        if !has_month(bymonth, months[place]) {
+        if !has_month(&rule.bymonth, info.months[place]) {
             continue;
         }
         days[taken] = place as u16;

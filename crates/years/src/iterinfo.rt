@@ -8,6 +8,7 @@ ghost use Rattle.years.specs.Info.{no_table, no_mask, table_where, mask_where, a
 use crate::lists::Asked;
 use dates::masks::{month_day_from_end_table, month_day_table, month_table};
 use nths::monthinfo::neg_weekday_mask;
+use rule::rrule::Rule;
 use weeks::yearinfo::{Year, week_no_mask, year_info};
 
 // A year with its tables (the month of each place, its day of the month, and that from the month's end) and its masks. Each is blank
@@ -116,15 +117,8 @@ fn masked_year(year: Year, weeks: [bool; 373], nths: [bool; 373]) -> IterInfo
 }
 
 // The year with a number: it is asked for again only when the year changes.
-pub fn rebuild<'a>(
-    asked: Asked,
-    inyear: bool,
-    wkst: u8,
-    number: u32,
-    byweekno: &'a [bool; 106],
-    byday: &'a [bool; 749],
-) -> IterInfo
-    ensures { result ≡ info_of asked inyear wkst byweekno.now byday.now number }
+pub fn rebuild(asked: Asked, inyear: bool, number: u32, rule: &Rule) -> IterInfo
+    ensures { result ≡ info_of asked inyear rule.now.wkst rule.now.byweekno rule.now.byday number }
 {
     let year = year_info(number);
     if !asks_more(asked) {
@@ -133,8 +127,8 @@ pub fn rebuild<'a>(
         }
         return bare_year(year);
     }
-    let weeks = weeks_where(asked.weekno, number, wkst, byweekno);
-    let nths = nths_where(asked.nth, inyear, year, byday);
+    let weeks = weeks_where(asked.weekno, number, rule.wkst, &rule.byweekno);
+    let nths = nths_where(asked.nth, inyear, year, &rule.byday);
     if !(asked.month | asked.monthday) {
         return masked_year(year, weeks, nths);
     }

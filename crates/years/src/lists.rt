@@ -1,9 +1,8 @@
 // Which day lists a rule has.
-ghost use Rattle.std.specs.Prelude.{◌≡◌, length};
-ghost use Rattle.rule.specs.Records.{has_nth};
+ghost use Rattle.std.specs.Prelude.{◌≡◌};
 ghost use Rattle.years.specs.Info.{asked_of};
 
-use basics::lists::is_empty;
+use basics::lists::{has_nth, is_empty};
 use rule::rrule::Rule;
 
 // Which day lists a rule has, and whether BYDAY has entries with n not 0.
@@ -17,15 +16,8 @@ pub struct Asked {
     pub nth: bool,
 }
 
-fn has_nth(byday: &[bool]) -> bool
-    requires { length byday.now ≡ 749 }
-    ensures { result ≡ has_nth byday.now }
-{
-    !is_empty(&byday[0..371]) | !is_empty(&byday[378..749])
-}
-
-pub fn asked_lists(rule: Rule) -> Asked
-    ensures { result ≡ asked_of rule }
+pub fn asked_lists(rule: &Rule) -> Asked
+    ensures { result ≡ asked_of rule.now }
 {
     Asked {
         month: !is_empty(&rule.bymonth),

@@ -6,34 +6,25 @@ use borrow.Author.Tests.{lt-ltb, le-ltb}
 use Rattle.calendar.specs.Calendar.{days_of}
 use Rattle.nths.proofs.Rows.{days_high}
 use Rattle.days.proofs.FilterLaws.{past_fails, some_filters}
-use Rattle.years.specs.declared.iterinfo.IterInfo.{IterInfo}
-use Rattle.years.specs.Info.{info_by}
-use Rattle.days.specs.Filters.{DayLists, day_lists}
+use Rattle.days.specs.Filters.{rule_lists}
 use Rattle.days.proofs.filters.is_filtered.Goals as goal
-use Rattle.days.proofs.filters.is_filtered.Goals.{Else-days_of-place, Start}
-
--- the year and the lists that were given
-abbrev info : Start → IterInfo
-info s = let a = s.args in info_by a.year a.months.now a.monthdays.now a.fromends.now a.weeks.now a.nths.now
-
-abbrev lists : Start → DayLists
-lists s = let a = s.args in day_lists a.bymonth.now a.bymonthday.now a.byyearday.now a.byday.now
+use Rattle.days.proofs.filters.is_filtered.Goals.{Else-days_of-place}
 
 pub overflow_add-days_of : goal.overflow_add-days_of
-overflow_add-days_of c = omega (arith, c.days_of.ensures, days_high c.args.year.long)
+overflow_add-days_of c = omega (arith, c.days_of.ensures, days_high c.args.info.now.year.long)
 
 pub returns-then-days_of-place : goal.returns-then-days_of-place
 returns-then-days_of-place c =
     let s = c in
-    past_fails s.args.asked (info (goal.at.returns-then-days_of-place c).Start) (lists (goal.at.returns-then-days_of-place c).Start) s.args.place
-    (le-ltb s.args.place (days_of s.args.year.long + 7) (omega (arith, c.days_of.ensures, c.if-days_of-place.true)))
+    past_fails s.args.asked s.args.info.now (rule_lists s.args.rule.now) s.args.place
+    (le-ltb s.args.place (days_of s.args.info.now.year.long + 7) (omega (arith, c.days_of.ensures, c.if-days_of-place.true)))
 
 -- the place lies in the tables, and in the masks
-in_place : (c : Else-days_of-place) → c.args.place < days_of c.args.year.long + 7
+in_place : (c : Else-days_of-place) → c.args.place < days_of c.args.info.now.year.long + 7
 in_place c = omega (arith, c.days_of.ensures, c.if-days_of-place.false)
 
 in_mask : (c : Else-days_of-place) → c.args.place < 373
-in_mask c = omega (arith, in_place c, days_high c.args.year.long)
+in_mask c = omega (arith, in_place c, days_high c.args.info.now.year.long)
 
 pub is_filtered_by_month-requires : goal.is_filtered_by_month-requires
 is_filtered_by_month-requires c = in_mask c
@@ -62,4 +53,4 @@ returns c =
       c.is_filtered_by_month_day.ensures,
       c.is_filtered_by_month.ensures,
     )
-    (some_filters s.args.asked (info here.Start) (lists here.Start) s.args.place (lt-ltb s.args.place (days_of s.args.year.long + 7) (in_place here.Else-days_of-place)))
+    (some_filters s.args.asked s.args.info.now (rule_lists s.args.rule.now) s.args.place (lt-ltb s.args.place (days_of s.args.info.now.year.long + 7) (in_place here.Else-days_of-place)))

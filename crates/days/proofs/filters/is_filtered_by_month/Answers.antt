@@ -7,5 +7,5 @@ use Rattle.days.proofs.filters.is_filtered_by_month.Goals as goal
 pub returns : goal.returns
 returns c =
     let a = c.args in
-    month_read a.asked a.months.now a.bymonth.now a.place c.has_month.result
+    month_read a.asked a.info.now.months a.rule.now.bymonth a.place c.has_month.result
     (not-false _ c.if-not-asked.false-raw) c.has_month.ensures

@@ -7,5 +7,5 @@ use Rattle.days.proofs.filters.is_filtered_by_month_day.Goals as goal
 pub returns : goal.returns
 returns c =
     let a = c.args in
-    month_day_read a.asked a.monthdays.now a.fromends.now a.bymonthday.now a.place c.has_day.result c.has_left.result
+    month_day_read a.asked a.info.now.monthdays a.info.now.fromends a.rule.now.bymonthday a.place c.has_day.result c.has_left.result
     (not-false _ c.if-not-asked.false-raw) c.has_day.ensures c.has_left.ensures

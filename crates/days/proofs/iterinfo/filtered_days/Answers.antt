@@ -7,40 +7,32 @@ use mathlib.Core.List.{List}
 use mathlib.Core.Path.{◌∙◌, ap, sym}
 use native.Mathlib.Omega.{arith}
 use borrow.Author.Tests.{not-false, not-true}
-use Rattle.years.specs.declared.iterinfo.IterInfo.{IterInfo}
-use Rattle.years.specs.Info.{info_by}
 use Rattle.clocks.specs.Blocks.{passing}
 use Rattle.nths.proofs.Rows.{days_high}
 use Rattle.plain.proofs.Filling.{fill_begins, fill_no, fill_yes, fill_ends}
-use Rattle.days.specs.Filters.{DayLists, day_lists, place_passes}
+use Rattle.days.specs.Filters.{rule_lists, place_passes}
 use Rattle.days.specs.DaySets.{day_set}
 use Rattle.days.proofs.Stretches.{by_all}
 use Rattle.days.proofs.iterinfo.filtered_days.Goals as goal
 use Rattle.days.proofs.iterinfo.filtered_days.Goals.{After-stretch_end-stop, Start}
 
--- the year and the lists that were given, the test and the day set
-abbrev info : Start → IterInfo
-info s = let a = s.args in info_by a.year a.months.now a.monthdays.now a.fromends.now a.weeks.now a.nths.now
-
-abbrev lists : Start → DayLists
-lists s = let a = s.args in day_lists a.bymonth.now a.bymonthday.now a.byyearday.now a.byday.now
-
+-- the test and the day set
 abbrev test : Start → ℕ → Bool
-test s = place_passes s.args.asked (info s) (lists s)
+test s = let a = s.args in place_passes a.asked a.info.now (rule_lists a.rule.now)
 
 abbrev kept : Start → List ℕ
-kept s = day_set s.args.asked (info s) (lists s) s.args.from s.args.to
+kept s = let a = s.args in day_set a.asked a.info.now (rule_lists a.rule.now) a.from a.to
 
 -- the stretch ends with the tables
 in_tables : (c : After-stretch_end-stop) → c.stretch_end-stop.result ≤ 373
-in_tables c = omega (arith, c.stretch_end-stop.ensures, days_high c.args.year.long)
+in_tables c = omega (arith, c.stretch_end-stop.ensures, days_high c.args.info.now.year.long)
 
 pub loop-place-init : goal.loop-place-init
 loop-place-init c =
     let s = c in
     let d = s.args.days.now in
     fill_begins (test (goal.at.loop-place-init c).Start) c.stretch_end-stop.result (kept (goal.at.loop-place-init c).Start) d d 0 0 s.args.from
-    (by_all s.args.asked (info (goal.at.loop-place-init c).Start) (lists (goal.at.loop-place-init c).Start) s.args.from s.args.to
+    (by_all s.args.asked s.args.info.now (rule_lists s.args.rule.now) s.args.from s.args.to
     ∙ ap (λ (n : ℕ). passing (test (goal.at.loop-place-init c).Start) (n - s.args.from) s.args.from) (sym c.stretch_end-stop.ensures))
 
 pub loop-place-preserved-then-is_filtered : goal.loop-place-preserved-then-is_filtered

@@ -1,28 +1,17 @@
 -- `days::iterinfo::get_dayset` meets its contract.
 -- Assumes nothing.
 use mathlib.Core.Path.{sym, ◌∙◌}
-use Rattle.years.specs.declared.iterinfo.IterInfo.{IterInfo}
-use Rattle.years.specs.Info.{info_by}
-use Rattle.days.specs.Filters.{DayLists, day_lists}
+use Rattle.days.specs.Filters.{rule_lists}
 use Rattle.days.proofs.Stretches.{by_month, by_none, by_sole, as_set}
 use Rattle.days.proofs.iterinfo.get_dayset.Goals as goal
-use Rattle.days.proofs.iterinfo.get_dayset.Goals.{Start}
-
--- the year and the lists that were given
-abbrev info : Start → IterInfo
-info s = let a = s.args in info_by a.year a.months.now a.monthdays.now a.fromends.now a.weeks.now a.nths.now
-
-abbrev lists : Start → DayLists
-lists s = let a = s.args in day_lists a.bymonth.now a.bymonthday.now a.byyearday.now a.byday.now
 
 pub returns-then-is_plain : goal.returns-then-is_plain
 returns-then-is_plain c =
-    let here = goal.at.returns-then-is_plain c in
     let p = c in
     let s = p in
     let a = s.args in
     let w = as_set _ _ _ _ _
-    (by_none a.asked (info here.Start) (lists here.Start) a.from a.to (sym p.is_plain.ensures ∙ c.if-is_plain.true))
+    (by_none a.asked a.info.now (rule_lists a.rule.now) a.from a.to (sym p.is_plain.ensures ∙ c.if-is_plain.true))
     c.plain_days.ensures.count c.plain_days.ensures.places in record { count = w.0; places = w.1 }
 
 pub returns-then-asked : goal.returns-then-asked
@@ -31,7 +20,7 @@ returns-then-asked c =
     let s = m in
     let a = s.args in
     let w = as_set _ _ _ _ _
-    (by_month a.asked (info (goal.at.returns-then-asked c).Start) (lists (goal.at.returns-then-asked c).Start) a.from a.to
+    (by_month a.asked a.info.now (rule_lists a.rule.now) a.from a.to
     (sym m.is_mixed.ensures ∙ c.if-is_mixed.false) c.if-asked.true)
     c.days_by_month.ensures.count c.days_by_month.ensures.places in record { count = w.0; places = w.1 }
 
@@ -42,6 +31,6 @@ returns c =
     let s = p in
     let a = s.args in
     let w = as_set _ _ _ _ _
-    (by_sole a.asked (info (goal.at.returns c).Start) (lists (goal.at.returns c).Start) a.from a.to
+    (by_sole a.asked a.info.now (rule_lists a.rule.now) a.from a.to
     (sym p.is_plain.ensures ∙ m.if-is_plain.false) (sym m.is_mixed.ensures ∙ c.if-is_mixed.false) c.if-asked.false)
     c.sole_days.ensures.count c.sole_days.ensures.places in record { count = w.0; places = w.1 }

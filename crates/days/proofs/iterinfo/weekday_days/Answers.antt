@@ -16,10 +16,10 @@ use Rattle.days.proofs.iterinfo.weekday_days.Goals as goal
 use Rattle.days.proofs.iterinfo.weekday_days.Goals.{Start}
 
 abbrev test : Start → ℕ → Bool
-test s = let a = s.args in weekday_at a.nth a.first a.byday.now a.nths.now
+test s = let a = s.args in weekday_at a.nth a.info.now.year.first a.rule.now.byday a.info.now.nths
 
 abbrev kept : Start → List ℕ
-kept s = let a = s.args in weekday_days a.nth a.first a.byday.now a.nths.now a.from a.end
+kept s = let a = s.args in weekday_days a.nth a.info.now.year.first a.rule.now.byday a.info.now.nths a.from a.end
 
 -- the day after is of the weekday after
 day_after : (first place today next : ℕ) → today ≡ weekday (first + place) → next ≡ (today + 1) % 7 → next ≡ weekday (first + (place + 1))
@@ -53,9 +53,9 @@ loop-place-preserved c =
     let a = s.args in (
       fill_keeps (test here.Start) a.end (kept here.Start) a.days.now c.loop-place.days c.loop-place.passed c.loop-place.place c.is_filtered_on-out.result _ c.keep-passed.result
           c.loop-place-test.true
-          (tested a.nth a.first a.byday.now a.nths.now c.loop-place.place c.loop-place.weekday c.is_filtered_on-out.result c.loop-place.invariant.1 c.is_filtered_on-out.ensures)
+          (tested a.nth a.info.now.year.first a.rule.now.byday a.info.now.nths c.loop-place.place c.loop-place.weekday c.is_filtered_on-out.result c.loop-place.invariant.1 c.is_filtered_on-out.ensures)
           c.keep-passed.ensures.count c.keep-passed.ensures.places c.loop-place.invariant.0,
-      day_after a.first c.loop-place.place c.loop-place.weekday c.next_weekday-weekday.result c.loop-place.invariant.1 c.next_weekday-weekday.ensures,
+      day_after a.info.now.year.first c.loop-place.place c.loop-place.weekday c.next_weekday-weekday.result c.loop-place.invariant.1 c.next_weekday-weekday.ensures,
     )
 
 pub returns : goal.returns

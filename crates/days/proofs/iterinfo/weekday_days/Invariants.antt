@@ -10,7 +10,7 @@ use Rattle.days.proofs.iterinfo.weekday_days.Given as goal
 
 abbrev pub invariant-loop-place : goal.invariant-loop-place
 invariant-loop-place l =
-    Filling (weekday_at l.nth l.first l.byday l.nths) l.end (weekday_days l.nth l.first l.byday l.nths l.from l.end) l.initial.days l.days l.passed l.place × (l.weekday ≡ weekday (l.first + l.place))
+    Filling (weekday_at l.nth l.info.year.first l.rule.byday l.info.nths) l.end (weekday_days l.nth l.info.year.first l.rule.byday l.info.nths l.from l.end) l.initial.days l.days l.passed l.place × (l.weekday ≡ weekday (l.info.year.first + l.place))
 
 abbrev pub decreases-loop-place : goal.decreases-loop-place
 decreases-loop-place l = l.end - l.place

@@ -12,10 +12,10 @@ use Rattle.days.proofs.iterinfo.year_days.Goals as goal
 use Rattle.days.proofs.iterinfo.year_days.Goals.{Start}
 
 abbrev test : Start → ℕ → Bool
-test s = yearday_at s.args.long s.args.nextlong s.args.byyearday.now
+test s = let a = s.args in yearday_at a.info.now.year.long a.info.now.year.nextlong a.rule.now.byyearday
 
 abbrev kept : Start → List ℕ
-kept s = year_days s.args.long s.args.nextlong s.args.byyearday.now s.args.from s.args.end
+kept s = let a = s.args in year_days a.info.now.year.long a.info.now.year.nextlong a.rule.now.byyearday a.from a.end
 
 pub loop-place-init : goal.loop-place-init
 unfolding year_days

@@ -8,7 +8,7 @@ use Rattle.days.proofs.iterinfo.year_days.Given as goal
 
 abbrev pub invariant-loop-place : goal.invariant-loop-place
 invariant-loop-place l =
-    Filling (yearday_at l.long l.nextlong l.byyearday) l.end (year_days l.long l.nextlong l.byyearday l.from l.end) l.initial.days l.days l.found l.place
+    Filling (yearday_at l.info.year.long l.info.year.nextlong l.rule.byyearday) l.end (year_days l.info.year.long l.info.year.nextlong l.rule.byyearday l.from l.end) l.initial.days l.days l.found l.place
 
 abbrev pub decreases-loop-place : goal.decreases-loop-place
 decreases-loop-place l = l.end - l.place

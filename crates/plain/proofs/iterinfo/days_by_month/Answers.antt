@@ -17,14 +17,14 @@ use Rattle.plain.proofs.iterinfo.days_by_month.Goals.{After-stretch_end-stop, St
 
 -- the test and the day set
 abbrev test : Start → ℕ → Bool
-test s = month_at s.args.months.now s.args.bymonth.now
+test s = month_at s.args.info.now.months s.args.rule.now.bymonth
 
 abbrev kept : Start → List ℕ
-kept s = let a = s.args in month_days a.months.now a.bymonth.now a.from (min a.to (days_of a.long + 7))
+kept s = let a = s.args in month_days a.info.now.months a.rule.now.bymonth a.from (min a.to (days_of a.info.now.year.long + 7))
 
 -- the stretch ends with the tables
 in_tables : (c : After-stretch_end-stop) → c.stretch_end-stop.result ≤ 373
-in_tables c = omega (arith, c.stretch_end-stop.ensures, days_high c.args.long)
+in_tables c = omega (arith, c.stretch_end-stop.ensures, days_high c.args.info.now.year.long)
 
 pub loop-place-init : goal.loop-place-init
 unfolding month_days
@@ -34,8 +34,8 @@ loop-place-init c =
     fill_begins (test (goal.at.loop-place-init c).Start) c.stretch_end-stop.result (kept (goal.at.loop-place-init c).Start) a.days.now a.days.now 0 0 a.from
     (ap (λ (n : ℕ). passing (test (goal.at.loop-place-init c).Start) (n - a.from) a.from) (sym c.stretch_end-stop.ensures))
 
-pub bounds-months-place : goal.bounds-months-place
-bounds-months-place c = search (rules, in_tables (goal.at.bounds-months-place c).After-stretch_end-stop)
+pub bounds-info-place : goal.bounds-info-place
+bounds-info-place c = search (rules, in_tables (goal.at.bounds-info-place c).After-stretch_end-stop)
 
 pub loop-place-preserved-then-not-has_month : goal.loop-place-preserved-then-not-has_month
 unfolding month_at

@@ -8,7 +8,7 @@ use Rattle.plain.proofs.iterinfo.days_by_month.Given as goal
 
 abbrev pub invariant-loop-place : goal.invariant-loop-place
 invariant-loop-place l =
-    Filling (month_at l.months l.bymonth) l.stop (month_days l.months l.bymonth l.from (min l.to (days_of l.long + 7))) l.initial.days l.days l.taken l.place
+    Filling (month_at l.info.months l.rule.bymonth) l.stop (month_days l.info.months l.rule.bymonth l.from (min l.to (days_of l.info.year.long + 7))) l.initial.days l.days l.taken l.place
 
 abbrev pub decreases-loop-place : goal.decreases-loop-place
 decreases-loop-place l = l.stop - l.place
