@@ -8,6 +8,12 @@ use Rattle.basics.proofs.faults.refused.Kinds as refused-kinds
 use Rattle.basics.proofs.faults.refused.Reads as refused
 use Rattle.basics.proofs.lists.is_empty.Kinds as is-empty-kinds
 use Rattle.basics.proofs.lists.is_empty.Reads as is-empty
+use Rattle.basics.proofs.lists.has_nth.Kinds as has-nth-kinds
+use Rattle.basics.proofs.lists.has_nth.Reads as has-nth
+use Rattle.basics.proofs.rrule.frequency_of.Kinds as frequency-of-kinds
+use Rattle.basics.proofs.rrule.frequency_of.Reads as frequency-of
+use Rattle.basics.proofs.rrule.is_until_out.Kinds as is-until-out-kinds
+use Rattle.basics.proofs.rrule.is_until_out.Reads as is-until-out
 use Rattle.basics.proofs.rrule.frequency_number.Kinds as frequency-number-kinds
 use Rattle.basics.proofs.rrule.frequency_number.Reads as frequency-number
 use Rattle.basics.proofs.rrule.refusal_number.Kinds as refusal-number-kinds
@@ -48,6 +54,15 @@ frequency_number_has_one κs a x y e f = one_answer
 pub is_empty_has_one : Determines 1 is-empty-kinds.ps is-empty-kinds.r is-empty.Post
 is_empty_has_one κs a x y e f = one_answer
 
+pub has_nth_has_one : Determines 1 has-nth-kinds.ps has-nth-kinds.r has-nth.Post
+has_nth_has_one κs a x y e f = one_answer
+
+pub frequency_of_has_one : Determines 0 frequency-of-kinds.ps frequency-of-kinds.r frequency-of.Post
+frequency_of_has_one κs a x y e f = one_answer
+
+pub is_until_out_has_one : Determines 0 is-until-out-kinds.ps is-until-out-kinds.r is-until-out.Post
+is_until_out_has_one κs a x y e f = one_answer
+
 -- and none asks anything of its callers
 pub fault_number_asks_nothing : AsksNothing 0 fault-number-kinds.ps fault-number.requires
 fault_number_asks_nothing κs a = nothing_asked
@@ -75,3 +90,12 @@ frequency_number_asks_nothing κs a = nothing_asked
 
 pub is_empty_asks_nothing : AsksNothing 1 is-empty-kinds.ps is-empty.requires
 is_empty_asks_nothing κs a = nothing_asked
+
+pub has_nth_asks_nothing : AsksNothing 1 has-nth-kinds.ps has-nth.requires
+has_nth_asks_nothing κs a = nothing_asked
+
+pub frequency_of_asks_nothing : AsksNothing 0 frequency-of-kinds.ps frequency-of.requires
+frequency_of_asks_nothing κs a = nothing_asked
+
+pub is_until_out_asks_nothing : AsksNothing 0 is-until-out-kinds.ps is-until-out.requires
+is_until_out_asks_nothing κs a = nothing_asked
