@@ -1,35 +1,30 @@
 -- What the code's types show of a reader's answer and of what is read.
 -- Assumes nothing.
-use Rattle.std.specs.Prelude.{ℕ, length, ℤ, pos, if◌then◌else◌}
+use Rattle.std.specs.Prelude.{ℕ, length, ℤ, Result, Ok, Err, if◌then◌else◌}
 use Rattle.std.proofs.lemmas.List.Edits.{sets}
 use Rattle.rule.specs.Raw.{RawLists, Raw, raw_lists}
 use Rattle.symbols.specs.Languages.{Both}
 use Rattle.symbols.specs.Takes.{Took}
-use Rattle.recur.specs.declared.Stopped.{Stopped}
-use Rattle.recur.specs.declared.Reached.{Reached}
-use Rattle.recur.specs.declared.ReachedEntry.{ReachedEntry}
-use Rattle.recur.specs.declared.ReachedDay.{ReachedDay}
+use Rattle.recur.specs.declared.Symbol.{Symbol}
+use Rattle.recur.specs.declared.Day.{Day}
 use Rattle.recur.specs.declared.Outline.{Outline}
-use Rattle.recur.specs.declared.Reading.{Reading}
 use Rattle.recur.specs.Grammar.{weekday_of}
 use Rattle.recur.specs.Reading.{Read, rule, refused}
 
-abbrev pub stopped : {A : Type 0} → Took A → Stopped
-stopped k = record { whole = k.whole; place = k.place }
+-- the place behind a whole symbol, with a value of its own kind; the place where the reader stopped of any other
+abbrev pub shown_as : {A B : Type 0} → (A → B) → Took A → Result (Symbol B) ℕ
+shown_as f k = if k.whole then Ok (record { place = k.place; value = f k.value }) else Err k.place
 
-abbrev pub shown : Took ℕ → Reached
-shown k = record { whole = k.whole; place = k.place; value = if k.whole then k.value else 0 }
+abbrev pub shown : {A : Type 0} → Took A → Result (Symbol A) ℕ
+shown k = shown_as (λ v. v) k
 
-abbrev pub shown_entry : Took ℤ → ReachedEntry
-shown_entry k = record { whole = k.whole; place = k.place; value = if k.whole then k.value else pos 0 }
+-- an entry of BYDAY
+abbrev pub day_of : Both ℤ ℕ → Day
+day_of d = record { nth = d.first; weekday = weekday_of d }
 
-abbrev pub shown_day : Took (Both ℤ ℕ) → ReachedDay
-shown_day k = record {
-  whole = k.whole;
-  place = k.place;
-  nth = if k.whole then k.value.first else pos 0;
-  weekday = if k.whole then weekday_of k.value else pos 0;
-}
+-- of a list it is only told where it stops, and whether it is whole
+abbrev pub stopped : {A : Type 0} → Took A → Result ℕ ℕ
+stopped k = if k.whole then Ok k.place else Err k.place
 
 abbrev pub outline_of : Raw → Outline
 outline_of w = record {
@@ -50,9 +45,9 @@ outline_of w = record {
 }
 
 -- what the reader answers
-abbrev pub reading_of : Read → Reading
-reading_of (rule w) = Reading.Rule (outline_of w)
-reading_of (refused n) = Reading.Refused n
+abbrev pub reading_of : Read → Result Outline ℕ
+reading_of (rule w) = Ok (outline_of w)
+reading_of (refused n) = Err n
 
 -- and what it leaves in the lists: the entries in their first slots; nothing where the text is refused
 abbrev pub filled_with : RawLists → RawLists → RawLists

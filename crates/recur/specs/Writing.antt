@@ -1,6 +1,6 @@
 -- How a rule is written: one text, its parts in the record's order, in capitals, with what goes without saying left out.
 -- Assumes nothing.
-use Rattle.std.specs.Prelude.{ℕ, zero, suc, ◌+◌, ◌/◌, ◌%◌, Bool, true, false, List, [], ◌∷◌, ◌++◌, map, length, eqb, leb, ltb, ℤ, pos, negsuc, if◌then◌else◌, Option, Some, None, Ok, Err}
+use Rattle.std.specs.Prelude.{ℕ, zero, suc, ◌+◌, ◌/◌, ◌%◌, Bool, true, false, List, [], ◌∷◌, ◌++◌, map, length, eqb, leb, ltb, ℤ, pos, negsuc, if◌then◌else◌, Option, Some, None, Result, Ok, Err}
 use Rattle.std.proofs.lemmas.List.Edits.{sets}
 use Rattle.calendar.specs.Calendar.{date_of}
 use Rattle.calendar.specs.declared.utils.Date.{Date}
@@ -9,7 +9,7 @@ use Rattle.rule.specs.Instants.{second, day_of, hour_of, minute_of, second_of}
 use Rattle.rule.specs.Raw.{RawLists, Raw}
 use Rattle.rule.specs.Refusals.{verdict}
 use Rattle.symbols.specs.Languages.{Both, both, word_at}
-use Rattle.recur.specs.declared.Written.{Written}
+use Rattle.recur.specs.declared.Unwritten.{Unwritten}
 use Rattle.recur.specs.Grammar.{names, frequencies, weekday_names, minus, comma, semicolon, Value, absent, number, numbers}
 use Rattle.recur.specs.Grammar.{days, Part, Kind, frequency, up_to_high, moment, weekday, entries, day_entries, kind_of}
 
@@ -143,21 +143,23 @@ unfoldable pub text_of : Raw → List ℕ
 unfolding parts_of part_text joined_by
 text_of w = joined_by semicolon (map part_text (parts_of w))
 
--- ---- what the writer answers
+-- ---- what the writer answers: the text's length, or why none is written
+
+abbrev pub Written : Type 0
+Written = Result ℕ Unwritten
 
 -- The rule has start 0; first the check, then the length.
 abbrev pub fitted : ℕ → ℕ → Written
-fitted needed room = if leb needed room then Written.Text needed else Written.Short needed
+fitted needed room = if leb needed room then Ok needed else Err (Unwritten.Short needed)
 
 unfoldable pub written_of : Raw → ℕ → Written
 unfolding text_of
-written_of w room = elim (verdict w) [ Err n ↦ Written.Refused n | Ok tt ↦ fitted (length (text_of w)) room ]
+written_of w room = elim (verdict w) [ Err n ↦ Err (Unwritten.Refused n) | Ok tt ↦ fitted (length (text_of w)) room ]
 
 -- what stands in the buffer then: the text in its first bytes; every byte as it was where nothing is written
 abbrev pub left_by : Written → List ℕ → List ℕ → List ℕ
-left_by (Written.Text n) t buffer = sets buffer 0 t
-left_by (Written.Short n) t buffer = buffer
-left_by (Written.Refused m) t buffer = buffer
+left_by (Ok n) t buffer = sets buffer 0 t
+left_by (Err e) t buffer = buffer
 
 unfoldable pub text_left : Raw → List ℕ → List ℕ
 unfolding written_of

@@ -1,36 +1,22 @@
-// The texts of rules (RECUR of RFC 5545): the types of their readers and of the writer, and no function. The code is in the crates from spelling to display.
+// The texts of rules (RECUR of RFC 5545): the types of their readers and of the writer. The code is in the crates from spelling to display.
 #![tactic(auto)]
 
-use rule::rrule::{Refusal, Rule};
+ghost use Rattle.std.specs.Prelude.{◌≡◌};
+ghost use Rattle.recur.specs.declared.Unwritten.{Unwritten};
+ghost use Rattle.recur.specs.declared.Unparsed.{Unparsed};
 
-// Whether a symbol is whole, and the place where its reader stopped.
+use rule::rrule::Refusal;
+
+// A symbol that is whole: the place behind it, and its value. A reader that finds none answers the place where it stopped.
 #[derive(Clone, Copy)]
-pub struct Stopped {
-    pub whole: bool,
+pub struct Symbol<T> {
     pub place: usize,
+    pub value: T,
 }
 
-// The same with the symbol's value, which is 0 where it isn't whole.
+// An entry of BYDAY: a weekday, and which one; 0 for every such weekday.
 #[derive(Clone, Copy)]
-pub struct Reached {
-    pub whole: bool,
-    pub place: usize,
-    pub value: u64,
-}
-
-// An entry of a list.
-#[derive(Clone, Copy)]
-pub struct ReachedEntry {
-    pub whole: bool,
-    pub place: usize,
-    pub value: i16,
-}
-
-// An entry of BYDAY.
-#[derive(Clone, Copy)]
-pub struct ReachedDay {
-    pub whole: bool,
-    pub place: usize,
+pub struct Day {
     pub nth: i16,
     pub weekday: i16,
 }
@@ -54,32 +40,41 @@ pub struct Outline {
     pub bysetpos: usize,
 }
 
-// A text is read, or refused at a place.
+// Why no text is written: the buffer is short of the length needed, or the check refuses the rule.
 #[derive(Clone, Copy)]
-pub enum Reading {
-    Rule(Outline),
-    Refused(usize),
-}
-
-// A rule is written, with the text's length; or the buffer is short of the length needed; or the check refuses the rule.
-#[derive(Clone, Copy)]
-pub enum Written {
-    Text(usize),
+pub enum Unwritten {
     Short(usize),
     Refused(Refusal),
 }
 
-// Of a text and a start: where the text can't be read, why the check refuses the rule, or that it is accepted.
-#[derive(Clone, Copy)]
-pub enum Told {
-    Unread(usize),
-    Refused(Refusal),
-    Accepted,
+impl From<Refusal> for Unwritten {
+    ghost from_gives = { λ refusal e. e ≡ Unwritten.Refused refusal };
+
+    fn from(refusal: Refusal) -> Unwritten {
+        Unwritten::Refused(refusal)
+    }
 }
 
-// What is told, and the record: blank unless the rule is accepted.
+// Why a text and a start give no rule: where the text can't be read, or why the check refuses what it says.
 #[derive(Clone, Copy)]
-pub struct Parsed {
-    pub told: Told,
-    pub rule: Rule,
+pub enum Unparsed {
+    Unread(usize),
+    Refused(Refusal),
+}
+
+impl From<Refusal> for Unparsed {
+    ghost from_gives = { λ refusal e. e ≡ Unparsed.Refused refusal };
+
+    fn from(refusal: Refusal) -> Unparsed {
+        Unparsed::Refused(refusal)
+    }
+}
+
+// The text ends at a place where more is wanted, or has there what can't be.
+impl From<usize> for Unparsed {
+    ghost from_gives = { λ place e. e ≡ Unparsed.Unread place };
+
+    fn from(place: usize) -> Unparsed {
+        Unparsed::Unread(place)
+    }
 }
