@@ -12,22 +12,14 @@ use walks::rrule_iter::{Bounds, Frame, Held, is_framed, midnight_of};
 pub fn is_late(bounds: Bounds, second: u64) -> bool
     ensures { result ≡ above (bound_of bounds.until) second }
 {
-    let until = bounds.until;
-    match until {
-        None => false,
-        Some(last) => last < second,
-    }
+    bounds.until.is_some_and(|last| last < second)
 }
 
 // Whether COUNT is reached.
 pub fn is_reached(bounds: Bounds, number: u64) -> bool
     ensures { result ≡ reaches (count_of bounds.count) number }
 {
-    let count = bounds.count;
-    match count {
-        None => false,
-        Some(n) => number == n as u64,
-    }
+    bounds.count.is_some_and(|n| number == n as u64)
 }
 
 // Whether a call is ready to walk, with so much room in the buffer.
