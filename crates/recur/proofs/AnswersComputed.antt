@@ -1,5 +1,6 @@
 -- Each text of specs/Texts has its answer, computed.
 -- Assumes nothing.
+use Rattle.std.specs.Prelude.{Ok, Err}
 use mathlib.Core.Path.{◌≡◌, refl}
 use mathlib.Core.List.{map}
 use Rattle.calendar.specs.Calendar.{leap, new_year, year_from, year_of, month_length, total, days_before_month, first_of, day_of_date}
@@ -7,7 +8,7 @@ use Rattle.calendar.specs.Calendar.{month_day_from, month_day_of, year_day, date
 use Rattle.symbols.specs.Readers.{digits, byte, common, offer, choose, word, followed, perhaps, joined}
 use Rattle.symbols.specs.Counts.{ten_to}
 use Rattle.recur.specs.Grammar.{none_used, value_in, rule_by, rule_of}
-use Rattle.recur.specs.Reading.{rule, refused, entry_at, day_at, entries_at, days_at, time_at, date_at, moment_at, part_at, parts_at, read_of}
+use Rattle.recur.specs.Reading.{entry_at, day_at, entries_at, days_at, time_at, date_at, moment_at, part_at, parts_at, read_of}
 use Rattle.recur.specs.Writing.{decimal_within, padded, signed_text, day_text, moment_text, joined_by, value_text, part_text, paired, parts_of, text_of}
 use Rattle.recur.specs.Texts.{places, samples}
 
@@ -20,11 +21,11 @@ unfoldable calendar_open : Unit {0}
 unfolding leap new_year year_from year_of month_length total days_before_month first_of day_of_date month_day_from month_day_of year_day date_of
 calendar_open = tt
 
-pub refused_there : map (λ c. read_of c.text) places ≡ map (λ c. refused c.place) places
+pub refused_there : map (λ c. read_of c.text) places ≡ map (λ c. Err c.place) places
 unfolding symbols_open calendar_open none_used value_in entry_at day_at entries_at days_at time_at date_at moment_at part_at parts_at read_of places
 refused_there = refl
 
-pub read_so : map (λ c. read_of c.text) samples ≡ map (λ c. rule c.reads) samples
+pub read_so : map (λ c. read_of c.text) samples ≡ map (λ c. Ok c.reads) samples
 unfolding symbols_open calendar_open none_used value_in rule_by rule_of entry_at day_at entries_at days_at time_at date_at moment_at part_at parts_at read_of samples
 read_so = refl
 

@@ -1,6 +1,6 @@
 -- What is read is what is good, and a refused text is refused at its longest good beginning.
 -- Assumes nothing.
-use Rattle.std.specs.Prelude.{if◌then◌else◌}
+use Rattle.std.specs.Prelude.{if◌then◌else◌, Ok, Err}
 use Prim.Native.Nat.{ℕ, ◌+◌, ◌≤◌}
 use native.Mathlib.Omega.{arith}
 use mathlib.Core.Path.{◌≡◌, refl, sym, ap, ◌∙◌, subst}
@@ -13,7 +13,7 @@ use Rattle.rule.specs.Raw.{Raw}
 use Rattle.symbols.specs.Takes.{Took, took, Outcome, Takes}
 use Rattle.symbols.proofs.Cuts.{and_both}
 use Rattle.recur.specs.Grammar.{none_used, Part, Parts, value_in, rule_of, is_there, Good, Begins}
-use Rattle.recur.specs.Reading.{parts_at, Read, rule, refused, is_none, is_whole, judged, longest, read_of}
+use Rattle.recur.specs.Reading.{parts_at, Read, is_none, is_whole, judged, longest, read_of}
 use Rattle.recur.specs.Claims.{ReadDecides, OneReading, LongestBeginning, RefusedAt, TooLong, BeginsDown}
 use Rattle.recur.proofs.Flags.{left_all}
 use Rattle.recur.proofs.Taken.{takes_parts}
@@ -30,11 +30,11 @@ taken = takes_parts 13 (none_used 14) left_all
 
 pub too_long : TooLong
 unfolding read_of
-too_long t h = ap (λ (b : Bool). elim b as (λ (x : Bool). Read) [ true ↦ refused longest | false ↦ judged (parts_in t) ]) (lt-ltb longest (length t) h)
+too_long t h = ap (λ (b : Bool). elim b as (λ (x : Bool). Read) [ true ↦ Err longest | false ↦ judged (parts_in t) ]) (lt-ltb longest (length t) h)
 
 pub read_by : (t : List ℕ) → length t ≤ longest → read_of t ≡ judged (parts_in t)
 unfolding read_of
-read_by t h = ap (λ (b : Bool). elim b as (λ (x : Bool). Read) [ true ↦ refused longest | false ↦ judged (parts_in t) ]) (le-ltb longest (length t) h)
+read_by t h = ap (λ (b : Bool). elim b as (λ (x : Bool). Read) [ true ↦ Err longest | false ↦ judged (parts_in t) ]) (le-ltb longest (length t) h)
 
 -- ---- a rule
 
@@ -58,21 +58,21 @@ whole_good t k o e =
     all_used [] e f = sym (f ∙ append-nil o.used)
     all_used (b ∷ r) e f = absurd (let z : ◌≡◌ {A = ℕ} 0 1 = cc in omega arith)
 
-judged_good : (t : List ℕ) (w : Raw) (k : Took (List Part)) → Outcome (List Part) Parts 0 t k → judged k ≡ rule w → Good t w
+judged_good : (t : List ℕ) (w : Raw) (k : Took (List Part)) → Outcome (List Part) Parts 0 t k → judged k ≡ Ok w → Good t w
 judged_good t w k o e = go (is_whole k) refl e
   where
-    go : (b : Bool) → is_whole k ≡ b → (if b then rule (rule_of k.value) else refused k.place) ≡ rule w → Good t w
+    go : (b : Bool) → is_whole k ≡ b → (if b then Ok (rule_of k.value) else Err k.place) ≡ Ok w → Good t w
     go true f g = subst (λ (v : Raw). Good t v) (let z : rule_of k.value ≡ w = cc in z) (whole_good t k o f)
     go false f g = absurd (let z : ◌≡◌ {A = ℕ} 0 1 = cc in omega arith)
 
-judged_whole : (n : ℕ) (ps : List Part) → is_there (value_in 0 ps) ≡ true → judged (took true n [] ps) ≡ rule (rule_of ps)
-judged_whole n ps e = ap (λ (b : Bool). if b then rule (rule_of ps) else refused n) e
+judged_whole : (n : ℕ) (ps : List Part) → is_there (value_in 0 ps) ≡ true → judged (took true n [] ps) ≡ Ok (rule_of ps)
+judged_whole n ps e = ap (λ (b : Bool). if b then Ok (rule_of ps) else Err n) e
 
 pub read_decides : ReadDecides
 read_decides t w h = (
   λ e. judged_good t w (parts_in t) (taken.outcome 0 t) (sym (read_by t h) ∙ e),
   λ g. read_by t h ∙ ap (λ (k : Took (List Part)). judged k) (full_parts t g.parts g.joined) ∙ judged_whole (0 + length t) g.parts g.freq_there
-      ∙ ap (λ (v : Raw). rule v) (sym g.rule),
+      ∙ ap (λ (v : Raw). Ok v) (sym g.rule),
 )
 
 pub one_reading : OneReading
@@ -82,10 +82,10 @@ one_reading t w v g h =
 
 -- ---- a refusal
 
-judged_place : (n : ℕ) (k : Took (List Part)) → judged k ≡ refused n → k.place ≡ n
+judged_place : (n : ℕ) (k : Took (List Part)) → judged k ≡ Err n → k.place ≡ n
 judged_place n k e = go (is_whole k) e
   where
-    go : (b : Bool) → (if b then rule (rule_of k.value) else refused k.place) ≡ refused n → k.place ≡ n
+    go : (b : Bool) → (if b then Ok (rule_of k.value) else Err k.place) ≡ Err n → k.place ≡ n
     go true f = absurd (let z : ◌≡◌ {A = ℕ} 0 1 = cc in omega arith)
     go false f = cc
 

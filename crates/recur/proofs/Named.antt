@@ -1,5 +1,6 @@
 -- The name of a part, read within a text: it is open, its value stands within the text, and what is left is the text from there on.
 -- Assumes nothing.
+use Rattle.std.specs.Prelude.{None}
 use Prim.Native.Nat.{ℕ, zero, suc, ◌+◌, ◌≤◌, ◌<◌}
 use native.Mathlib.Omega.{arith}
 use mathlib.Core.Path.{◌≡◌, refl, ap, ◌∙◌}
@@ -9,7 +10,7 @@ use mathlib.Core.List.{List, [], ◌∷◌}
 use lib.ListN.{length, drop}
 use Rattle.symbols.specs.Languages.{pick, is_used, word_at, Spelled}
 use Rattle.symbols.specs.Takes.{Took, Outcome, Takes}
-use Rattle.symbols.specs.Readers.{common, best, better, offer, choose, word}
+use Rattle.symbols.specs.Readers.{common, best, has_word, better, offer, choose, word}
 use Rattle.symbols.proofs.Tables.{apart_all, capital_all, takes_table}
 use Rattle.recur.specs.Grammar.{names}
 use Rattle.recur.proofs.Parted.{rest_is, place_in}
@@ -33,18 +34,18 @@ open_or_used (true ∷ s) = ⊎_elim
 
 module _ (words : List (List ℕ)) (seen : List Bool) (used : (i : ℕ) → is_used seen i ≡ true) where
   -- the best match stays as it was
-  offer_none : (i : ℕ) (t : List ℕ) → offer words seen i (best false 0 0) t ≡ best false 0 0
+  offer_none : (i : ℕ) (t : List ℕ) → offer words seen i (best None 0) t ≡ best None 0
   unfolding offer
-  offer_none i t = ap (λ (y : Bool). pick y (best false 0 0) (better (common (word_at words i) t) (length (word_at words i)) i (best false 0 0))) (used i)
+  offer_none i t = ap (λ (y : Bool). pick y (best None 0) (better (common (word_at words i) t) (length (word_at words i)) i (best None 0))) (used i)
 
-  choose_none : (n i : ℕ) (t : List ℕ) → choose words seen n i (best false 0 0) t ≡ best false 0 0
+  choose_none : (n i : ℕ) (t : List ℕ) → choose words seen n i (best None 0) t ≡ best None 0
   unfolding choose
   choose_none zero i t = refl
   choose_none (suc n) i t = ap (λ k. choose words seen n (i + 1) k t) (offer_none i t) ∙ choose_none n (i + 1) t
 
   word_none : (at : ℕ) (t : List ℕ) → (word words seen at t).whole ≡ false
   unfolding word
-  word_none at t = ap (λ k. k.found) (choose_none (length words) 0 t)
+  word_none at t = ap has_word (choose_none (length words) 0 t)
 
 -- ---- a name that is read whole
 

@@ -1,6 +1,6 @@
 -- What is read lies in its ranges.
 -- Assumes nothing.
-use Rattle.std.specs.Prelude.{if◌then◌else◌}
+use Rattle.std.specs.Prelude.{if◌then◌else◌, Err}
 use Prim.Native.Nat.{ℕ, suc, ◌≤◌}
 use native.Mathlib.Omega.{arith}
 use mathlib.Core.Path.{◌≡◌, refl, sym, ◌∙◌, subst}
@@ -15,7 +15,7 @@ use Rattle.rule.specs.Raw.{Raw}
 use Rattle.symbols.specs.Languages.{Spelled, Both, Turned, Joined, Joined.one, Joined.more}
 use Rattle.recur.specs.Grammar.{none_used, Entry, Day, Value, absent, Part, Kind, entries, day_entries, kind_of, ValueText, PartText, with_used, semicolon}
 use Rattle.recur.specs.Grammar.{value_in, number_or, as_count, as_until, as_list, as_days, nth_of, weekday_of, rule_by, rule_of, Good}
-use Rattle.recur.specs.Reading.{refused, longest, read_of}
+use Rattle.recur.specs.Reading.{longest, read_of}
 use Rattle.recur.specs.Claims.{EachWithin, ListInRange, CountInRange, UntilInRange, InRange, ReadInRange}
 use Rattle.recur.proofs.Bounds.{moment_most, entry_most, nth_most, list_in_lem}
 use Rattle.recur.proofs.Decided.{too_long, read_decides}
@@ -109,5 +109,5 @@ pub read_in_range : ReadInRange
 read_in_range t w e = go (ltb longest (length t)) refl
   where
     go : (b : Bool) → ltb longest (length t) ≡ b → InRange w
-    go true h = absurd (let r : read_of t ≡ refused longest = too_long t (ltb-true longest (length t) h) in let z : ◌≡◌ {A = ℕ} 0 1 = cc in omega arith)
+    go true h = absurd (let r : read_of t ≡ Err longest = too_long t (ltb-true longest (length t) h) in let z : ◌≡◌ {A = ℕ} 0 1 = cc in omega arith)
     go false h = good_ranges t w ((read_decides t w (ltb-false longest (length t) h)).0 e)

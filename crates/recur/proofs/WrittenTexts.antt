@@ -14,7 +14,7 @@ use Rattle.rule.specs.Refusals.{verdict}
 use Rattle.rule.proofs.RefusalLaws.{none_given}
 use Rattle.symbols.specs.Languages.{both}
 use Rattle.recur.specs.Grammar.{none_used, number, Part, PartText, value_in}
-use Rattle.recur.specs.Reading.{rule, read_of}
+use Rattle.recur.specs.Reading.{read_of}
 use Rattle.recur.specs.Writing.{part_text, text_of}
 use Rattle.recur.specs.Claims.{Writable, WrittenIsGood, WrittenFits, ReadsBack, WrittenOnce}
 use Rattle.recur.proofs.Decided.{read_decides}
@@ -62,5 +62,5 @@ reads_back w a = (read_decides (text_of w) w (omega (arith, written_fits w a))).
 
 pub written_once : WrittenOnce
 written_once w v a b e =
-    let p : rule w ≡ rule v = sym (reads_back w a) ∙ ap read_of e ∙ reads_back v b in
+    let p : Ok w ≡ Ok v = sym (reads_back w a) ∙ ap read_of e ∙ reads_back v b in
     cc

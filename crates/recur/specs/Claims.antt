@@ -1,17 +1,17 @@
 -- What is claimed of texts; proofs/ has a proof of each claim, under the same name in small letters.
 -- Assumes nothing.
-use Rattle.std.specs.Prelude.{ℕ, ◌≤◌, ◌<◌, ◌≡◌, List, [], ◌∷◌, ◌++◌, length, take, ℤ, nat_abs, Option, Some, None, Ok}
+use Rattle.std.specs.Prelude.{ℕ, ◌≤◌, ◌<◌, ◌≡◌, List, [], ◌∷◌, ◌++◌, length, take, ℤ, nat_abs, Option, Some, None, Ok, Err}
 use Rattle.rule.specs.Refusals.{Verdict}
 use Rattle.rule.specs.Instants.{last_instant}
 use Rattle.rule.specs.Raw.{RawLists, Raw}
 use Rattle.rule.specs.Refusals.{verdict}
 use Rattle.recur.specs.Grammar.{Good, Begins}
-use Rattle.recur.specs.Reading.{rule, refused, longest, read_of}
+use Rattle.recur.specs.Reading.{longest, read_of}
 use Rattle.recur.specs.Writing.{text_of}
 
 -- A text that isn't too long is read as a rule exactly where it is a good text of that rule.
 abbrev pub ReadDecides : Type 0
-ReadDecides = (t : List ℕ) (w : Raw) → length t ≤ longest → (read_of t ≡ rule w → Good t w) × (Good t w → read_of t ≡ rule w)
+ReadDecides = (t : List ℕ) (w : Raw) → length t ≤ longest → (read_of t ≡ Ok w → Good t w) × (Good t w → read_of t ≡ Ok w)
 
 -- A text has one rule, however long it is.
 abbrev pub OneReading : Type 0
@@ -24,10 +24,10 @@ pub record LongestBeginning (t : List ℕ) (n : ℕ) : Type 0 where
   pub none_longer : (m : ℕ) → m ≤ length t → Begins (take m t) → m ≤ n
 
 abbrev pub RefusedAt : Type 0
-RefusedAt = (t : List ℕ) (n : ℕ) → length t ≤ longest → read_of t ≡ refused n → LongestBeginning t n
+RefusedAt = (t : List ℕ) (n : ℕ) → length t ≤ longest → read_of t ≡ Err n → LongestBeginning t n
 
 abbrev pub TooLong : Type 0
-TooLong = (t : List ℕ) → longest < length t → read_of t ≡ refused longest
+TooLong = (t : List ℕ) → longest < length t → read_of t ≡ Err longest
 
 -- What begins a good text has only such beginnings.
 abbrev pub BeginsDown : Type 0
@@ -73,7 +73,7 @@ pub record InRange (w : Raw) : Type 0 where
   pub lists : ListsInRange w.lists
 
 abbrev pub ReadInRange : Type 0
-ReadInRange = (t : List ℕ) (w : Raw) → read_of t ≡ rule w → InRange w
+ReadInRange = (t : List ℕ) (w : Raw) → read_of t ≡ Ok w → InRange w
 
 -- A rule that is written: the check takes it with start 0, and INTERVAL and COUNT have their types' ranges.
 pub record Writable (w : Raw) : Type 0 where
@@ -90,7 +90,7 @@ abbrev pub WrittenFits : Type 0
 WrittenFits = (w : Raw) → Writable w → length (text_of w) ≤ 13117
 
 abbrev pub ReadsBack : Type 0
-ReadsBack = (w : Raw) → Writable w → read_of (text_of w) ≡ rule w
+ReadsBack = (w : Raw) → Writable w → read_of (text_of w) ≡ Ok w
 
 -- Two rules with one text are one rule.
 abbrev pub WrittenOnce : Type 0

@@ -5,7 +5,7 @@ use Rattle.rule.specs.declared.rrule.Rule.{Rule}
 use Rattle.rule.specs.Filling.{Checked, checked}
 use Rattle.rule.specs.Raw.{Raw, raw}
 use Rattle.recur.specs.declared.Unparsed.{Unparsed}
-use Rattle.recur.specs.Reading.{Read, rule, refused, read_of}
+use Rattle.recur.specs.Reading.{Read, read_of}
 
 -- the caller's start in the place of the text's 0
 abbrev pub with_start : ℕ → Raw → Raw
@@ -17,8 +17,8 @@ parsed_as (Err m) = Err (Unparsed.Refused m)
 parsed_as (Ok r) = Ok r
 
 abbrev pub parsed_by : Read → ℕ → Result Rule Unparsed
-parsed_by (refused n) start = Err (Unparsed.Unread n)
-parsed_by (rule w) start = parsed_as (checked (with_start start w))
+parsed_by (Err n) start = Err (Unparsed.Unread n)
+parsed_by (Ok w) start = parsed_as (checked (with_start start w))
 
 unfoldable pub parsed_of : List ℕ → ℕ → Result Rule Unparsed
 parsed_of t start = parsed_by (read_of t) start

@@ -1,6 +1,6 @@
 -- How a text is read: a reader for each symbol of the grammar.
 -- Assumes nothing.
-use Rattle.std.specs.Prelude.{ℕ, Bool, true, false, ◌&&◌, ◌||◌, List, [], ◌∷◌, length, eqb, ltb, ℤ, pos, if◌then◌else◌}
+use Rattle.std.specs.Prelude.{ℕ, Bool, true, false, ◌&&◌, ◌||◌, List, [], ◌∷◌, length, eqb, ltb, ℤ, pos, if◌then◌else◌, Result, Ok, Err}
 use Rattle.calendar.specs.Calendar.{leap, month_length}
 use Rattle.rule.specs.Raw.{Raw}
 use Rattle.symbols.specs.Languages.{is_digit, Both, both}
@@ -88,9 +88,8 @@ unfolding part_at
 parts_at n seen = joined part_at with_used semicolon n seen
 
 -- What a text is read as: its rule, or the place where it is refused.
-pub data Read : Type 0 where
-  rule : Raw → Read
-  refused : ℕ → Read
+abbrev pub Read : Type 0
+Read = Result Raw ℕ
 
 abbrev pub is_none : List ℕ → Bool
 is_none [] = true
@@ -101,11 +100,11 @@ abbrev pub is_whole : Took (List Part) → Bool
 is_whole k = k.whole && (is_none k.rest && is_there (value_in 0 k.value))
 
 abbrev pub judged : Took (List Part) → Read
-judged k = if is_whole k then rule (rule_of k.value) else refused k.place
+judged k = if is_whole k then Ok (rule_of k.value) else Err k.place
 
 abbrev pub longest : ℕ
 longest = 16384
 
 unfoldable pub read_of : List ℕ → Read
 unfolding parts_at
-read_of t = elim (ltb longest (length t)) [ true ↦ refused longest | false ↦ judged (parts_at 13 (none_used 14) 0 t) ]
+read_of t = elim (ltb longest (length t)) [ true ↦ Err longest | false ↦ judged (parts_at 13 (none_used 14) 0 t) ]

@@ -9,7 +9,7 @@ use Rattle.recur.specs.declared.Symbol.{Symbol}
 use Rattle.recur.specs.declared.Day.{Day}
 use Rattle.recur.specs.declared.Outline.{Outline}
 use Rattle.recur.specs.Grammar.{weekday_of}
-use Rattle.recur.specs.Reading.{Read, rule, refused}
+use Rattle.recur.specs.Reading.{Read}
 
 -- the place behind a whole symbol, with a value of its own kind; the place where the reader stopped of any other
 abbrev pub shown_as : {A B : Type 0} → (A → B) → Took A → Result (Symbol B) ℕ
@@ -46,8 +46,8 @@ outline_of w = record {
 
 -- what the reader answers
 abbrev pub reading_of : Read → Result Outline ℕ
-reading_of (rule w) = Ok (outline_of w)
-reading_of (refused n) = Err n
+reading_of (Ok w) = Ok (outline_of w)
+reading_of (Err n) = Err n
 
 -- and what it leaves in the lists: the entries in their first slots; nothing where the text is refused
 abbrev pub filled_with : RawLists → RawLists → RawLists
@@ -57,5 +57,5 @@ filled_with l v =
     (sets l.byminute 0 v.byminute) (sets l.bysecond 0 v.bysecond) (sets l.bysetpos 0 v.bysetpos)
 
 abbrev pub lists_left : Read → RawLists → RawLists
-lists_left (rule w) l = filled_with l w.lists
-lists_left (refused n) l = l
+lists_left (Ok w) l = filled_with l w.lists
+lists_left (Err n) l = l

@@ -1,5 +1,6 @@
 -- A word of a table is found, or its longest beginning.
 -- Assumes nothing.
+use Rattle.std.specs.Prelude.{Option, Some, None, is_some, unwrap_or}
 use Prim.Native.Nat.{ℕ, zero, suc, ◌+◌, ◌≤◌, ◌<◌}
 use native.Mathlib.Nat.{eq-or-lt_of_le}
 use native.Mathlib.Omega.{arith}
@@ -14,7 +15,7 @@ use borrow.Author.Tests.{eqb-true, eqb-false, ltb-true, ltb-false}
 use Rattle.symbols.specs.Languages.{pick, upper, is_used, word_at, Spelled}
 use Rattle.symbols.specs.Takes.{took, Outcome, Takes}
 use Rattle.symbols.specs.declared.Best.{Best}
-use Rattle.symbols.specs.Readers.{common, best, offer, choose, chosen, word}
+use Rattle.symbols.specs.Readers.{common, best, has_word, number_of, offer, choose, chosen, word}
 use Rattle.symbols.proofs.Cuts.{head_same, tail_same, cons_same, not_empty, Within, Beyond, two_cuts}
 
 -- ---- how much of a word begins the text
@@ -86,22 +87,22 @@ module _ (words : List (List ℕ)) (seen : List Bool)
 
   -- what the best match comes to, with the word i looked at
   data Offered (i : ℕ) (t : List ℕ) (k : Best) : Best → Type 0 where
-    over : k.found ≡ true → Offered i t k k
-    used_up : k.found ≡ false → is_used seen i ≡ true → Offered i t k k
-    whole : is_used seen i ≡ false → shared i t ≡ size i → Offered i t k (best true (shared i t) i)
-    longer : k.found ≡ false → is_used seen i ≡ false → shared i t < size i → k.count < shared i t → Offered i t k (best false (shared i t) 0)
-    shorter : k.found ≡ false → is_used seen i ≡ false → shared i t < size i → shared i t ≤ k.count → Offered i t k k
+    over : has_word k ≡ true → Offered i t k k
+    used_up : has_word k ≡ false → is_used seen i ≡ true → Offered i t k k
+    whole : is_used seen i ≡ false → shared i t ≡ size i → Offered i t k (best (Some i) (shared i t))
+    longer : has_word k ≡ false → is_used seen i ≡ false → shared i t < size i → k.count < shared i t → Offered i t k (best None (shared i t))
+    shorter : has_word k ≡ false → is_used seen i ≡ false → shared i t < size i → shared i t ≤ k.count → Offered i t k k
 
   offered : (i : ℕ) (t : List ℕ) (k : Best) → Offered i t k (offer words seen i k t)
   unfolding offer
-  offered i t k = go k.found refl (is_used seen i) refl (eqb (shared i t) (size i)) refl (ltb k.count (shared i t)) refl
+  offered i t k = go (has_word k) refl (is_used seen i) refl (eqb (shared i t) (size i)) refl (ltb k.count (shared i t)) refl
     where
       less : eqb (shared i t) (size i) ≡ false → shared i t < size i
       less s = omega (arith, (common_le (word_at words i) t).0, eqb-false (shared i t) (size i) s)
 
-      go : (x : Bool) → k.found ≡ x → (y : Bool) → is_used seen i ≡ y → (z : Bool) → eqb (shared i t) (size i) ≡ z
+      go : (x : Bool) → has_word k ≡ x → (y : Bool) → is_used seen i ≡ y → (z : Bool) → eqb (shared i t) (size i) ≡ z
           → (v : Bool) → ltb k.count (shared i t) ≡ v
-          → Offered i t k (pick x k (pick y k (pick z (best true (shared i t) i) (pick v (best false (shared i t) 0) k))))
+          → Offered i t k (pick x k (pick y k (pick z (best (Some i) (shared i t)) (pick v (best None (shared i t)) k))))
       go true e y u z s v l = over e
       go false e true u z s v l = used_up e u
       go false e false u true s v l = whole u (eqb-true _ _ s)
@@ -112,7 +113,7 @@ module _ (words : List (List ℕ)) (seen : List Bool)
 
   record Held (t : List ℕ) (k : Best) : Type 0 where
     fits : k.count ≤ length t
-    spells : k.found ≡ true → Spells k.which (take k.count t)
+    spells : has_word k ≡ true → Spells (number_of k) (take k.count t)
     some : ℕ
     more : List ℕ
     begins : Spells some (take k.count t ++ more)
@@ -127,9 +128,9 @@ module _ (words : List (List ℕ)) (seen : List Bool)
   found_at : (i : ℕ) → i < length words → is_used seen i ≡ false → (t : List ℕ) → shared i t ≡ size i → Spells i (take (shared i t) t)
   found_at i h u t e = record { there = h; unused = u; same = common_same (word_at words i) t ∙ rw e (take-length (word_at words i)) }
 
-  now_held : (i : ℕ) → i < length words → is_used seen i ≡ false → (t : List ℕ) (f : Bool) (a : ℕ) → (f ≡ true → Spells a (take (shared i t) t))
-      → Held t (best f (shared i t) a)
-  now_held i h u t f a s = record {
+  now_held : (i : ℕ) → i < length words → is_used seen i ≡ false → (t : List ℕ) (w : Option ℕ)
+      → (is_some w ≡ true → Spells (unwrap_or w 0) (take (shared i t) t)) → Held t (best w (shared i t))
+  now_held i h u t w s = record {
     fits = (common_le (word_at words i) t).1;
     spells = s;
     some = i;
@@ -140,8 +141,8 @@ module _ (words : List (List ℕ)) (seen : List Bool)
   offer_held : (i : ℕ) → i < length words → (t : List ℕ) (k r : Best) → Held t k → Offered i t k r → Held t r
   offer_held i h t k r d (over e) = d
   offer_held i h t k r d (used_up e u) = d
-  offer_held i h t k r d (whole u e) = now_held i h u t true i (λ z. found_at i h u t e)
-  offer_held i h t k r d (longer e u l m) = now_held i h u t false 0 (λ z. absurd (let q : ◌≡◌ {A = ℕ} 0 1 = cc in omega arith))
+  offer_held i h t k r d (whole u e) = now_held i h u t (Some i) (λ z. found_at i h u t e)
+  offer_held i h t k r d (longer e u l m) = now_held i h u t None (λ z. absurd (let q : ◌≡◌ {A = ℕ} 0 1 = cc in omega arith))
   offer_held i h t k r d (shorter e u l m) = d
 
   choose_held : (n i : ℕ) → i + n ≤ length words → (t : List ℕ) (k : Best) → Held t k → Held t (choose words seen n i k t)
@@ -157,16 +158,16 @@ module _ (words : List (List ℕ)) (seen : List Bool)
 
   -- from the match k to the match r with the word i looked at, and with n words from i on
   record Passed (i : ℕ) (t : List ℕ) (k r : Best) : Type 0 where
-    was : k.found ≡ false
+    was : has_word k ≡ false
     rises : k.count ≤ r.count
     this : is_used seen i ≡ false → Short t r.count i
 
   record Least (i n : ℕ) (t : List ℕ) (k r : Best) : Type 0 where
-    was : k.found ≡ false
+    was : has_word k ≡ false
     rises : k.count ≤ r.count
     each : (a : ℕ) → i ≤ a → a < i + n → is_used seen a ≡ false → Short t r.count a
 
-  offer_passed : (i : ℕ) (t : List ℕ) (k r : Best) → Offered i t k r → r.found ≡ false → Passed i t k r
+  offer_passed : (i : ℕ) (t : List ℕ) (k r : Best) → Offered i t k r → has_word r ≡ false → Passed i t k r
   offer_passed i t k r (over e) f = absurd (let q : ◌≡◌ {A = ℕ} 0 1 = cc in omega arith)
   offer_passed i t k r (used_up e u) f = record {
     was = e;
@@ -188,7 +189,7 @@ module _ (words : List (List ℕ)) (seen : List Bool)
       each_of : (a : ℕ) → i ≤ a → a < i + suc n → is_used seen a ≡ false → Short t r.count a
       each_of a h l u = ⊎_elim (λ (e : i ≡ a). first_of a e u) (λ (e : i < a). d.each a (omega arith) (omega arith) u) (eq-or-lt_of_le h)
 
-  least : (n i : ℕ) (t : List ℕ) (k : Best) → (choose words seen n i k t).found ≡ false → Least i n t k (choose words seen n i k t)
+  least : (n i : ℕ) (t : List ℕ) (k : Best) → has_word (choose words seen n i k t) ≡ false → Least i n t k (choose words seen n i k t)
   unfolding choose
   least zero i t k f = record { was = f; rises = omega arith; each = λ a h l u. absurd (omega arith) }
   least (suc n) i t k f = go (offer words seen i k t) (offered i t k) (least n (i + 1) t (offer words seen i k t) f)
@@ -199,7 +200,7 @@ module _ (words : List (List ℕ)) (seen : List Bool)
   -- ---- the reader
 
   abbrev all : List ℕ → Best
-  all t = choose words seen (length words) 0 (best false 0 0) t
+  all t = choose words seen (length words) 0 (best None 0) t
 
   -- the bytes that match
   abbrev used : List ℕ → List ℕ
@@ -210,7 +211,7 @@ module _ (words : List (List ℕ)) (seen : List Bool)
   reads at t = refl
 
   all_held : (t : List ℕ) → Held t (all t)
-  all_held t = choose_held (length words) 0 (omega arith) t (best false 0 0) (record {
+  all_held t = choose_held (length words) 0 (omega arith) t (best None 0) (record {
     fits = omega arith;
     spells = λ z. absurd (let q : ◌≡◌ {A = ℕ} 0 1 = cc in omega arith);
     some = o;
@@ -222,9 +223,9 @@ module _ (words : List (List ℕ)) (seen : List Bool)
   length_used t = length-take-le (all t).count t (all_held t).fits
 
   -- where none is found, whatever begins an open word is shared with it
-  unfound : (a : ℕ) (p ys r : List ℕ) → Spells a (p ++ ys) → (all (p ++ r)).found ≡ false → (length p ≤ (all (p ++ r)).count) × (length p < size a)
+  unfound : (a : ℕ) (p ys r : List ℕ) → Spells a (p ++ ys) → has_word (all (p ++ r)) ≡ false → (length p ≤ (all (p ++ r)).count) × (length p < size a)
   unfound a p ys r d e =
-      let m : Least 0 (length words) (p ++ r) (best false 0 0) (all (p ++ r)) = least (length words) 0 (p ++ r) (best false 0 0) e in
+      let m : Least 0 (length words) (p ++ r) (best None 0) (all (p ++ r)) = least (length words) 0 (p ++ r) (best None 0) e in
       let l : Short (p ++ r) (all (p ++ r)).count a = m.each a (omega arith) (omega (arith, d.there)) d.unused in
       let f : length p ≤ shared a (p ++ r) = common_far (word_at words a) p ys r d.same in
       omega arith
@@ -233,7 +234,7 @@ module _ (words : List (List ℕ)) (seen : List Bool)
   abbrev Further : List ℕ → List ℕ → Type 0
   Further p t = (c : ℕ) × (q : List ℕ) × (used t ≡ p ++ c ∷ q)
 
-  found_far : (a : ℕ) (p ys r : List ℕ) → Spells a (p ++ ys) → (all (p ++ r)).found ≡ true → (p ≡ used (p ++ r)) ⊎ Further p (p ++ r)
+  found_far : (a : ℕ) (p ys r : List ℕ) → Spells a (p ++ ys) → has_word (all (p ++ r)) ≡ true → (p ≡ used (p ++ r)) ⊎ Further p (p ++ r)
   found_far a p ys r d e = ⊎_elim
       (λ (h : Within (used (p ++ r)) p). inl (within h.0 h.1))
       (λ (h : Beyond (used (p ++ r)) (drop (all (p ++ r)).count (p ++ r)) p r). inr (h.0, h.1, h.2))
@@ -241,41 +242,41 @@ module _ (words : List (List ℕ)) (seen : List Bool)
     where
       within : (q : List ℕ) → p ≡ used (p ++ r) ++ q → p ≡ used (p ++ r)
       within [] f = f ∙ append-nil (used (p ++ r))
-      within (c ∷ q) f = absurd (free (all (p ++ r)).which a c (used (p ++ r)) (q ++ ys) ((all_held (p ++ r)).spells e)
+      within (c ∷ q) f = absurd (free (number_of (all (p ++ r))) a c (used (p ++ r)) (q ++ ys) ((all_held (p ++ r)).spells e)
           (subst (λ (z : List ℕ). Spells a z) (ap (λ (z : List ℕ). z ++ ys) f ∙ append_assoc (used (p ++ r)) (c ∷ q) ys) d))
 
   -- a word that stands there is found
-  is_found : (a : ℕ) (xs r : List ℕ) → Spells a xs → (all (xs ++ r)).found ≡ true
-  is_found a xs r d = go (all (xs ++ r)).found refl
+  is_found : (a : ℕ) (xs r : List ℕ) → Spells a xs → has_word (all (xs ++ r)) ≡ true
+  is_found a xs r d = go (has_word (all (xs ++ r))) refl
     where
-      go : (x : Bool) → (all (xs ++ r)).found ≡ x → (all (xs ++ r)).found ≡ true
+      go : (x : Bool) → has_word (all (xs ++ r)) ≡ x → has_word (all (xs ++ r)) ≡ true
       go true e = e
       go false e =
           let l : length xs ≡ size a = sym (length-map xs upper) ∙ ap length d.same in
           absurd (omega (arith, (unfound a xs [] r (rw append-nil d) e).1))
 
-  it_is : (a : ℕ) (xs r : List ℕ) → Spells a xs → (xs ≡ used (xs ++ r)) × ((all (xs ++ r)).which ≡ a)
+  it_is : (a : ℕ) (xs r : List ℕ) → Spells a xs → (xs ≡ used (xs ++ r)) × (number_of (all (xs ++ r)) ≡ a)
   it_is a xs r d = ⊎_elim
-      (λ (h : xs ≡ used (xs ++ r)). (h, alone (all (xs ++ r)).which a xs (found_is (sym h)) d))
-      (λ (h : Further xs (xs ++ r)). absurd (free a (all (xs ++ r)).which h.0 xs h.1 d (found_is h.2)))
+      (λ (h : xs ≡ used (xs ++ r)). (h, alone (number_of (all (xs ++ r))) a xs (found_is (sym h)) d))
+      (λ (h : Further xs (xs ++ r)). absurd (free a (number_of (all (xs ++ r))) h.0 xs h.1 d (found_is h.2)))
       (found_far a xs [] r (rw append-nil d) (is_found a xs r d))
     where
-      found_is : {zs : List ℕ} → used (xs ++ r) ≡ zs → Spells (all (xs ++ r)).which zs
-      found_is e = subst (λ (z : List ℕ). Spells (all (xs ++ r)).which z) e ((all_held (xs ++ r)).spells (is_found a xs r d))
+      found_is : {zs : List ℕ} → used (xs ++ r) ≡ zs → Spells (number_of (all (xs ++ r))) zs
+      found_is e = subst (λ (z : List ℕ). Spells (number_of (all (xs ++ r))) z) e ((all_held (xs ++ r)).spells (is_found a xs r d))
 
   fulls : (at a : ℕ) (xs r : List ℕ) → Spells a xs → word words seen at (xs ++ r) ≡ took true (at + length xs) r a
   fulls at a xs r d =
-      let f : (all (xs ++ r)).found ≡ true = is_found a xs r d in
-      let i : (all (xs ++ r)).which ≡ a = (it_is a xs r d).1 in
+      let f : has_word (all (xs ++ r)) ≡ true = is_found a xs r d in
+      let i : number_of (all (xs ++ r)) ≡ a = (it_is a xs r d).1 in
       let c : (all (xs ++ r)).count ≡ length xs = sym (length_used (xs ++ r)) ∙ ap length (sym (it_is a xs r d).0) in
       let s : drop (all (xs ++ r)).count (xs ++ r) ≡ r = ap (λ (n : ℕ). drop n (xs ++ r)) c ∙ drop-append_seam xs r in
       let p : at + (all (xs ++ r)).count ≡ at + length xs = ap (λ (n : ℕ). at + n) c in
       reads at (xs ++ r) ∙ cc
 
   fars : (at a : ℕ) (p ys r : List ℕ) → Spells a (p ++ ys) → at + length p ≤ (word words seen at (p ++ r)).place
-  fars at a p ys r d = rw (reads at (p ++ r)) (go (all (p ++ r)).found refl)
+  fars at a p ys r d = rw (reads at (p ++ r)) (go (has_word (all (p ++ r))) refl)
     where
-      go : (x : Bool) → (all (p ++ r)).found ≡ x → at + length p ≤ at + (all (p ++ r)).count
+      go : (x : Bool) → has_word (all (p ++ r)) ≡ x → at + length p ≤ at + (all (p ++ r)).count
       go true e = ⊎_elim
           (λ (h : p ≡ used (p ++ r)). omega (arith, ap length h, length_used (p ++ r)))
           (λ (h : Further p (p ++ r)). omega (arith, ap length h.2, length-append p (h.0 ∷ h.1), length_used (p ++ r)))

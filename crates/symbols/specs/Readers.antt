@@ -1,6 +1,6 @@
 -- Readers of the symbols of Languages, each of which goes as far as some word goes.
 -- Assumes nothing.
-use Rattle.std.specs.Prelude.{ℕ, zero, suc, ◌+◌, ◌-◌, ◌*◌, ◌≡◌, Bool, true, false, ◌&&◌, List, [], ◌∷◌, length, drop, eqb, ltb}
+use Rattle.std.specs.Prelude.{ℕ, zero, suc, ◌+◌, ◌-◌, ◌*◌, ◌≡◌, Bool, true, false, ◌&&◌, List, [], ◌∷◌, length, drop, eqb, ltb, Option, Some, None, is_some, unwrap_or}
 use Rattle.symbols.specs.declared.Best.{Best}
 use Rattle.symbols.specs.Languages.{is_digit, pick, upper, is_used, word_at, Both, both}
 use Rattle.symbols.specs.Takes.{Took, took}
@@ -42,15 +42,22 @@ common (c ∷ w) [] = 0
 common (c ∷ w) (b ∷ t) = elim (eqb (upper b) c) [ true ↦ suc (common w t) | false ↦ 0 ]
 
 -- the best match so far
-abbrev pub best : Bool → ℕ → ℕ → Best
-best found count which = record { found = found; count = count; which = which }
+abbrev pub best : Option ℕ → ℕ → Best
+best which count = record { which = which; count = count }
+
+abbrev pub has_word : Best → Bool
+has_word k = is_some k.which
+
+-- the word's number, which is 0 where none is found
+abbrev pub number_of : Best → ℕ
+number_of k = unwrap_or k.which 0
 
 abbrev pub better : ℕ → ℕ → ℕ → Best → Best
-better n size i k = pick (eqb n size) (best true n i) (pick (ltb k.count n) (best false n 0) k)
+better n size i k = pick (eqb n size) (best (Some i) n) (pick (ltb k.count n) (best None n) k)
 
 unfoldable pub offer : List (List ℕ) → List Bool → ℕ → Best → List ℕ → Best
 unfolding common
-offer words seen i k t = pick k.found k (pick (is_used seen i) k (better (common (word_at words i) t) (length (word_at words i)) i k))
+offer words seen i k t = pick (has_word k) k (pick (is_used seen i) k (better (common (word_at words i) t) (length (word_at words i)) i k))
 
 unfoldable pub choose : List (List ℕ) → List Bool → ℕ → ℕ → Best → List ℕ → Best
 unfolding offer
@@ -58,11 +65,11 @@ choose words seen zero i k t = k
 choose words seen (suc n) i k t = choose words seen n (i + 1) (offer words seen i k t) t
 
 abbrev pub chosen : Best → ℕ → List ℕ → Took ℕ
-chosen k at t = took k.found (at + k.count) (drop k.count t) k.which
+chosen k at t = took (has_word k) (at + k.count) (drop k.count t) (number_of k)
 
 unfoldable pub word : List (List ℕ) → List Bool → ℕ → List ℕ → Took ℕ
 unfolding choose
-word words seen at t = chosen (choose words seen (length words) 0 (best false 0 0) t) at t
+word words seen at t = chosen (choose words seen (length words) 0 (best None 0) t) at t
 
 -- ---- one symbol behind another
 
