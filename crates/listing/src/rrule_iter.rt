@@ -170,7 +170,7 @@ pub fn run(rule: Rule, cursor: Cursor, buffer: &mut [u64], m: u32) -> Answer
     }
     let freq = rule.freq;
     match counter_at(freq, rule.interval, rule.wkst, rule.start, cursor.k) {
-        Reached::To(counter) => run_on(rule, plan_of(rule), counter, cursor, buffer, m),
+        Reached::To(counter) => run_on(rule, plan_of(&rule), counter, cursor, buffer, m),
         Reached::NoTick => refused(Fault::Cursor, cursor),
         Reached::Range => refused(Fault::Cursor, cursor),
     }
