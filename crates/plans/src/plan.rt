@@ -59,7 +59,7 @@ pub fn plan_of(rule: &Rule) -> Plan
     };
     let clock = get_clock(&rule.byhour, &rule.byminute, &rule.bysecond);
     let times = get_timeset(&clock);
-    let asked = asked_lists(*rule);
+    let asked = asked_lists(rule);
     let lists = times.lists;
     let shape = Shape {
         freq: rule.freq,
