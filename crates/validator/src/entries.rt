@@ -1,10 +1,11 @@
-// The entries of a list as given. Behind `entry` all numbers are unsigned.
-ghost use Rattle.std.specs.Prelude.{◌≡◌, ℕ, ◌+◌, ◌-◌, ◌<◌, ◌≤◌, length, get_or, pos};
-ghost use Rattle.rule.specs.Lists.{within, zeros, mark};
+// The entries of a list as given. Behind `slot_of` all numbers are unsigned.
+ghost use Rattle.std.specs.Prelude.{◌≡◌, ◌≤◌, Some};
+ghost use Rattle.std.specs.Int.Signed.{lt_z};
+ghost use Rattle.rule.specs.Lists.{within, zeros, slot_of, pair_slot, mark};
 ghost use Rattle.rule.specs.Filling.{takes};
 ghost use Rattle.rule.specs.Raw.{entries, pairs};
-ghost use Rattle.rule.specs.Entries.{shift, Moved, slot_at, pair_at, pair_below_at, marks};
-ghost use Rattle.rule.specs.Refusals.{is_outside, strays, rises, pairs_rise, some_every, some_nth};
+ghost use Rattle.rule.specs.Entries.{Moved, slot_at, marks};
+ghost use Rattle.rule.specs.Refusals.{stray_in, strays, rises, pair_below, pairs_rise, is_zero, some_every, some_nth};
 
 use basics::lists::is_empty;
 use rule::rrule::Range;
@@ -71,16 +72,16 @@ fn shifted(value: i16) -> usize
     ((value as i32) + 32768) as usize
 }
 
-// An entry of a list, moved up.
-fn entry(list: &[i16], i: usize) -> usize
-    requires { i < length list.now }
-    ensures { Moved (get_or list.now i (pos 0)) result }
+// The slot of a value in a list's range: one function for all lists.
+fn slot_of(range: Range, value: i16) -> Option<usize>
+    requires { (range.negatives ≤ 366) × (range.positives ≤ 366) }
+    ensures { result ≡ slot_of range value }
 {
-    shifted(list[i])
+    slot_at(range, shifted(value))
 }
 
-// The slot of an entry in its list's range: one function for all lists.
-fn slot_of(range: Range, up: usize) -> Option<usize>
+// The slot of a value that was moved up.
+fn slot_at(range: Range, up: usize) -> Option<usize>
     requires { (range.negatives ≤ 366) × (range.positives ≤ 366) }
     ensures { result ≡ slot_at range up }
 {
@@ -104,27 +105,21 @@ fn slot_of(range: Range, up: usize) -> Option<usize>
 fn middle_slot(range: Range) -> Option<usize>
     ensures { result ≡ within range.zeroin range.negatives }
 {
-    if range.zeroin {
-        Some(range.negatives)
-    } else {
-        None
-    }
+    range.zeroin.then_some(range.negatives)
 }
 
 fn middle_slots(range: Range) -> usize
     ensures { result ≡ zeros range }
 {
-    if range.zeroin { 1 } else { 0 }
+    range.zeroin as usize
 }
 
-fn is_outside(range: Range, up: usize) -> bool
+// Whether a value lies outside a range.
+fn is_outside(range: Range, value: i16) -> bool
     requires { (range.negatives ≤ 366) × (range.positives ≤ 366) }
-    ensures { result ≡ is_outside (slot_at range up) }
+    ensures { result ≡ stray_in range value }
 {
-    match slot_of(range, up) {
-        Some(_) => false,
-        None => true,
-    }
+    slot_of(range, value).is_none()
 }
 
 // Whether an entry of a list lies outside its range.
@@ -132,90 +127,57 @@ pub(crate) fn has_strays(range: Range, list: &[i16]) -> bool
     requires { (range.negatives ≤ 366) × (range.positives ≤ 366) }
     ensures { result ≡ strays range list.now }
 {
-    let mut i = 0;
-    while i < list.len() {
-        if is_outside(range, entry(list, i)) {
-            return true;
-        }
-        i += 1;
-    }
-    false
+    list.iter().any(|value| is_outside(range, *value))
+}
+
+fn is_less(x: i16, y: i16) -> bool
+    ensures { result ≡ lt_z x y }
+{
+    x < y
 }
 
 // Whether a list rises strictly.
 pub(crate) fn is_rising(list: &[i16]) -> bool
     ensures { result ≡ rises list.now }
 {
-    let mut i = 1;
-    while i < list.len() {
-        if entry(list, i) <= entry(list, i - 1) {
-            return false;
-        }
-        i += 1;
-    }
-    true
+    list.is_sorted_by(|x, y| is_less(*x, *y))
+}
+
+fn is_every(n: i16) -> bool
+    ensures { result ≡ is_zero n }
+{
+    n == 0
 }
 
 // Whether BYDAY has an entry with n = 0, and whether it has one with n not 0.
 pub(crate) fn has_every(ns: &[i16]) -> bool
     ensures { result ≡ some_every ns.now }
 {
-    let mut i = 0;
-    while i < ns.len() {
-        if entry(ns, i) == 32768 {
-            return true;
-        }
-        i += 1;
-    }
-    false
+    ns.iter().any(|n| is_every(*n))
 }
 
 pub(crate) fn has_nth(ns: &[i16]) -> bool
     ensures { result ≡ some_nth ns.now }
 {
-    let mut i = 0;
-    while i < ns.len() {
-        if entry(ns, i) != 32768 {
-            return true;
-        }
-        i += 1;
-    }
-    false
+    ns.iter().any(|n| !is_every(*n))
+}
+
+// Whether the pair (n, w) is below (m, v).
+fn is_below(n: i16, w: i16, m: i16, v: i16) -> bool
+    ensures { result ≡ pair_below n w m v }
+{
+    (n, w) < (m, v)
 }
 
 // Whether BYDAY's pairs rise strictly, by n, then weekday.
 pub(crate) fn are_rising(ns: &[i16], ws: &[i16]) -> bool
     ensures { result ≡ pairs_rise ns.now ws.now }
 {
-    let mut i = 1;
-    while i < ns.len() {
-        if ws.len() <= i {
-            return true;
-        }
-        if !is_below(
-            entry(ns, i - 1),
-            entry(ws, i - 1),
-            entry(ns, i),
-            entry(ws, i),
-        ) {
-            return false;
-        }
-        i += 1;
-    }
-    true
-}
-
-// Whether the pair (n, w) is below (m, v).
-fn is_below(n: usize, w: usize, m: usize, v: usize) -> bool
-    ensures { result ≡ pair_below_at n w m v }
-{
-    if n < m {
-        return true;
-    }
-    if m < n {
-        return false;
-    }
-    w < v
+    let next = ns.iter().zip(ws).skip(1);
+    ns.iter()
+        .zip(ws)
+        .zip(next)
+        .all(|((n, w), (m, v))| is_below(*n, *w, *m, *v))
 }
 
 // Marks a set with the entries of a list.
@@ -223,10 +185,8 @@ pub(crate) fn mark_list(range: Range, list: &[i16], flags: &mut [bool])
     requires { (range.negatives ≤ 366) × (range.positives ≤ 366) }
     ensures { flags.new ≡ marks flags.old (entries range list.now) }
 {
-    let mut i = 0;
-    while i < list.len() {
-        mark_slot(slot_of(range, entry(list, i)), flags);
-        i += 1;
+    for value in list {
+        mark_slot(slot_of(range, *value), flags);
     }
 }
 
@@ -234,26 +194,17 @@ pub(crate) fn mark_list(range: Range, list: &[i16], flags: &mut [bool])
 pub(crate) fn mark_pairs(ns: &[i16], ws: &[i16], flags: &mut [bool])
     ensures { flags.new ≡ marks flags.old (pairs ns.now ws.now) }
 {
-    let mut i = 0;
-    while i < ns.len() {
-        if ws.len() <= i {
-            return;
-        }
-        mark_slot(pair_slot(entry(ns, i), entry(ws, i)), flags);
-        i += 1;
+    for (n, w) in ns.iter().zip(ws) {
+        mark_slot(pair_slot(*n, *w), flags);
     }
 }
 
 // The slot of a pair of BYDAY.
-fn pair_slot(n: usize, w: usize) -> Option<usize>
-    ensures { result ≡ pair_at n w }
+fn pair_slot(n: i16, w: i16) -> Option<usize>
+    ensures { result ≡ pair_slot n w }
 {
-    let Some(a) = slot_of(NTHS, n) else {
-        return None;
-    };
-    let Some(b) = slot_of(WEEKDAYS, w) else {
-        return None;
-    };
+    let a = slot_of(NTHS, n)?;
+    let b = slot_of(WEEKDAYS, w)?;
     Some(a * 7 + b)
 }
 
@@ -263,21 +214,17 @@ fn mark_slot(slot: Option<usize>, flags: &mut [bool])
     let Some(i) = slot else {
         return;
     };
-    if flags.len() <= i {
-        return;
+    if i < flags.len() {
+        flags[i] = true;
     }
-    flags[i] = true;
 }
 
-// An empty set takes a slot, where it is to.
-pub(crate) fn take_slot(when: bool, flags: &mut [bool], slot: usize)
-    ensures { flags.new ≡ takes when flags.old (Option<usize>.At slot) }
+// A set takes a slot, where it is empty and is to.
+pub(crate) fn take<const N: usize>(mut flags: [bool; N], when: bool, slot: usize) -> [bool; N]
+    ensures { result ≡ takes when flags.entry (Some slot) }
 {
-    if !when {
-        return;
+    if when & is_empty(&flags) {
+        mark_slot(Some(slot), &mut flags);
     }
-    if !is_empty(flags) {
-        return;
-    }
-    mark_slot(Some(slot), flags);
+    flags
 }

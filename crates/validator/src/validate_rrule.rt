@@ -1,8 +1,9 @@
 // The check: from what is given to a record, or a refusal.
-ghost use Rattle.std.specs.Prelude.{◌≡◌};
-ghost use Rattle.rule.specs.Raw.{raw, raw_lists};
-ghost use Rattle.rule.specs.Filling.{frequency, given_as, blank, checked};
-ghost use Rattle.rule.specs.Refusals.{until_out, entry_out, not_rising, positions_alone, verdict};
+ghost use Rattle.std.specs.Prelude.{◌≡◌, ◌≤◌};
+ghost use Rattle.rule.specs.Lists.{set_of};
+ghost use Rattle.rule.specs.Raw.{entries, pairs, lists_of, raw_of};
+ghost use Rattle.rule.specs.Filling.{given, checked};
+ghost use Rattle.rule.specs.Refusals.{entry_out, not_rising, positions_alone, verdict};
 ghost use Rattle.rule.specs.Entries.{or_refused};
 
 use crate::entries::{
@@ -10,255 +11,132 @@ use crate::entries::{
     has_every, has_nth, has_strays, is_rising, mark_list, mark_pairs,
 };
 use crate::filling::filled;
-use basics::rrule::{count_and_until, has_nought, is_misplaced};
-use rule::rrule::{Checked, Frequency, Refusal, Rule, Verdict};
-
-// The first instant after 9999.
-const RANGE_END: u64 = 253402300800;
-
-fn until_out(until: Option<u64>) -> bool
-    ensures { result ≡ until_out until }
-{
-    match until {
-        None => false,
-        Some(t) => RANGE_END <= t,
-    }
-}
+use basics::rrule::{count_and_until, frequency_of, has_nought, is_misplaced, is_until_out};
+use calendar::utils::LAST_INSTANT;
+use rule::rrule::{ByLists, Range, Refusal, Rule, Unvalidated};
 
 // Whether an entry of a list lies outside its range, or one of BYDAY lacks a half.
-fn entry_out(
-    bymonth: &[i16],
-    bymonthday: &[i16],
-    byyearday: &[i16],
-    byweekno: &[i16],
-    bydayn: &[i16],
-    bydayw: &[i16],
-    byhour: &[i16],
-    byminute: &[i16],
-    bysecond: &[i16],
-    bysetpos: &[i16],
-) -> bool
-    ensures { result ≡ entry_out (raw_lists
-        bymonth.now bymonthday.now byyearday.now byweekno.now bydayn.now
-        bydayw.now byhour.now byminute.now bysecond.now bysetpos.now) }
+fn entry_out(lists: &ByLists) -> bool
+    ensures { result ≡ entry_out (lists_of lists.now) }
 {
-    has_strays(MONTHS, bymonth)
-        | has_strays(MONTHDAYS, bymonthday)
-        | has_strays(YEARDAYS, byyearday)
-        | has_strays(WEEKNOS, byweekno)
-        | (bydayn.len() != bydayw.len())
-        | has_strays(NTHS, bydayn)
-        | has_strays(WEEKDAYS, bydayw)
-        | has_strays(HOURS, byhour)
-        | has_strays(SIXTY, byminute)
-        | has_strays(SIXTY, bysecond)
-        | has_strays(POSITIONS, bysetpos)
+    has_strays(MONTHS, lists.bymonth)
+        | has_strays(MONTHDAYS, lists.bymonthday)
+        | has_strays(YEARDAYS, lists.byyearday)
+        | has_strays(WEEKNOS, lists.byweekno)
+        | (lists.bydayn.len() != lists.bydayw.len())
+        | has_strays(NTHS, lists.bydayn)
+        | has_strays(WEEKDAYS, lists.bydayw)
+        | has_strays(HOURS, lists.byhour)
+        | has_strays(SIXTY, lists.byminute)
+        | has_strays(SIXTY, lists.bysecond)
+        | has_strays(POSITIONS, lists.bysetpos)
 }
 
 // Whether a list doesn't rise strictly.
-fn not_rising(
-    bymonth: &[i16],
-    bymonthday: &[i16],
-    byyearday: &[i16],
-    byweekno: &[i16],
-    bydayn: &[i16],
-    bydayw: &[i16],
-    byhour: &[i16],
-    byminute: &[i16],
-    bysecond: &[i16],
-    bysetpos: &[i16],
-) -> bool
-    ensures { result ≡ not_rising (raw_lists
-        bymonth.now bymonthday.now byyearday.now byweekno.now bydayn.now
-        bydayw.now byhour.now byminute.now bysecond.now bysetpos.now) }
+fn not_rising(lists: &ByLists) -> bool
+    ensures { result ≡ not_rising (lists_of lists.now) }
 {
-    !is_rising(bymonth)
-        | !is_rising(bymonthday)
-        | !is_rising(byyearday)
-        | !is_rising(byweekno)
-        | !are_rising(bydayn, bydayw)
-        | !is_rising(byhour)
-        | !is_rising(byminute)
-        | !is_rising(bysecond)
-        | !is_rising(bysetpos)
+    !is_rising(lists.bymonth)
+        | !is_rising(lists.bymonthday)
+        | !is_rising(lists.byyearday)
+        | !is_rising(lists.byweekno)
+        | !are_rising(lists.bydayn, lists.bydayw)
+        | !is_rising(lists.byhour)
+        | !is_rising(lists.byminute)
+        | !is_rising(lists.bysecond)
+        | !is_rising(lists.bysetpos)
 }
 
 // The verdict of the rows before; where they have no refusal, this row's, if it applies.
-fn or_refused(verdict: Verdict, refusal: Refusal, applies: bool) -> Verdict
+fn or_refused(verdict: Result<(), Refusal>, refusal: Refusal, applies: bool) -> Result<(), Refusal>
     ensures { result ≡ or_refused verdict refusal applies }
 {
-    let Verdict::Accepted = verdict else {
-        return verdict;
-    };
-    if applies {
-        return Verdict::Refused(refusal);
-    }
-    verdict
+    verdict?;
+    if applies { Err(refusal) } else { Ok(()) }
+}
+
+// The set of a list's entries.
+fn marked<const N: usize>(range: Range, list: &[i16]) -> [bool; N]
+    requires { (range.negatives ≤ 366) × (range.positives ≤ 366) }
+    ensures { result ≡ set_of N (entries range list.now) }
+{
+    let mut flags = [false; N];
+    mark_list(range, list, &mut flags);
+    flags
+}
+
+// The set of BYDAY's pairs.
+fn marked_pairs(ns: &[i16], ws: &[i16]) -> [bool; 749]
+    ensures { result ≡ set_of 749 (pairs ns.now ws.now) }
+{
+    let mut flags = [false; 749];
+    mark_pairs(ns, ws, &mut flags);
+    flags
 }
 
 // The record as it is given, before filling in: the sets of the lists.
-fn given_rule(
-    freq: Frequency,
-    interval: u16,
-    count: Option<u32>,
-    until: Option<u64>,
-    wkst: u8,
-    start: u64,
-    bymonth: &[i16],
-    bymonthday: &[i16],
-    byyearday: &[i16],
-    byweekno: &[i16],
-    bydayn: &[i16],
-    bydayw: &[i16],
-    byhour: &[i16],
-    byminute: &[i16],
-    bysecond: &[i16],
-    bysetpos: &[i16],
-) -> Rule
-    ensures { result ≡ given_as freq interval count until wkst start (raw_lists
-        bymonth.now bymonthday.now byyearday.now byweekno.now bydayn.now
-        bydayw.now byhour.now byminute.now bysecond.now bysetpos.now) }
+fn given_rule(raw: &Unvalidated, start: u64) -> Rule
+    ensures { result ≡ given (raw_of raw.now start) }
 {
-    let mut months = [false; 12];
-    let mut monthdays = [false; 62];
-    let mut yeardays = [false; 732];
-    let mut weeknos = [false; 106];
-    let mut days = [false; 749];
-    let mut hours = [false; 24];
-    let mut minutes = [false; 60];
-    let mut seconds = [false; 60];
-    let mut setposs = [false; 732];
-    mark_list(MONTHS, bymonth, &mut months);
-    mark_list(MONTHDAYS, bymonthday, &mut monthdays);
-    mark_list(YEARDAYS, byyearday, &mut yeardays);
-    mark_list(WEEKNOS, byweekno, &mut weeknos);
-    mark_pairs(bydayn, bydayw, &mut days);
-    mark_list(HOURS, byhour, &mut hours);
-    mark_list(SIXTY, byminute, &mut minutes);
-    mark_list(SIXTY, bysecond, &mut seconds);
-    mark_list(POSITIONS, bysetpos, &mut setposs);
+    let lists = &raw.lists;
     Rule {
-        freq,
-        interval,
-        count,
-        until,
-        wkst,
+        freq: frequency_of(raw.freq),
+        interval: raw.interval,
+        count: raw.count,
+        until: raw.until,
+        wkst: raw.wkst,
         start,
-        bymonth: months,
-        bymonthday: monthdays,
-        byyearday: yeardays,
-        byweekno: weeknos,
-        byday: days,
-        byhour: hours,
-        byminute: minutes,
-        bysecond: seconds,
-        bysetpos: setposs,
+        bymonth: marked(MONTHS, lists.bymonth),
+        bymonthday: marked(MONTHDAYS, lists.bymonthday),
+        byyearday: marked(YEARDAYS, lists.byyearday),
+        byweekno: marked(WEEKNOS, lists.byweekno),
+        byday: marked_pairs(lists.bydayn, lists.bydayw),
+        byhour: marked(HOURS, lists.byhour),
+        byminute: marked(SIXTY, lists.byminute),
+        bysecond: marked(SIXTY, lists.bysecond),
+        bysetpos: marked(POSITIONS, lists.bysetpos),
     }
-}
-
-fn frequency_of(freq: u8) -> Frequency
-    ensures { result ≡ frequency freq }
-{
-    if freq == 0 {
-        return Frequency::Yearly;
-    }
-    if freq == 1 {
-        return Frequency::Monthly;
-    }
-    if freq == 2 {
-        return Frequency::Weekly;
-    }
-    if freq == 3 {
-        return Frequency::Daily;
-    }
-    if freq == 4 {
-        return Frequency::Hourly;
-    }
-    if freq == 5 {
-        return Frequency::Minutely;
-    }
-    Frequency::Secondly
 }
 
 // Whether BYSETPOS is present and every other list empty.
-fn positions_alone(
-    bymonth: &[i16],
-    bymonthday: &[i16],
-    byyearday: &[i16],
-    byweekno: &[i16],
-    bydayn: &[i16],
-    bydayw: &[i16],
-    byhour: &[i16],
-    byminute: &[i16],
-    bysecond: &[i16],
-    bysetpos: &[i16],
-) -> bool
-    ensures { result ≡ positions_alone (raw_lists
-        bymonth.now bymonthday.now byyearday.now byweekno.now bydayn.now
-        bydayw.now byhour.now byminute.now bysecond.now bysetpos.now) }
+fn positions_alone(lists: &ByLists) -> bool
+    ensures { result ≡ positions_alone (lists_of lists.now) }
 {
-    (bysetpos.len() != 0)
-        & ((bymonth.len() == 0)
-            & ((bymonthday.len() == 0)
-                & ((byyearday.len() == 0)
-                    & ((byweekno.len() == 0)
-                        & ((bydayn.len() == 0)
-                            & ((bydayw.len() == 0)
-                                & ((byhour.len() == 0)
-                                    & ((byminute.len() == 0) & (bysecond.len() == 0)))))))))
+    !lists.bysetpos.is_empty()
+        & (lists.bymonth.is_empty()
+            & (lists.bymonthday.is_empty()
+                & (lists.byyearday.is_empty()
+                    & (lists.byweekno.is_empty()
+                        & (lists.bydayn.is_empty()
+                            & (lists.bydayw.is_empty()
+                                & (lists.byhour.is_empty()
+                                    & (lists.byminute.is_empty() & lists.bysecond.is_empty()))))))))
 }
 
 // The verdict: every row's test, then the rows in the table's order. The whole rule is handed over, whether a row asks for a part of it or not.
-pub fn verdict_of(
-    freq: u8,
-    interval: u16,
-    count: Option<u32>,
-    until: Option<u64>,
-    wkst: u8,
-    start: u64,
-    bymonth: &[i16],
-    bymonthday: &[i16],
-    byyearday: &[i16],
-    byweekno: &[i16],
-    bydayn: &[i16],
-    bydayw: &[i16],
-    byhour: &[i16],
-    byminute: &[i16],
-    bysecond: &[i16],
-    bysetpos: &[i16],
-) -> Verdict
-    ensures { result ≡ verdict (raw freq interval count until wkst start (raw_lists
-        bymonth.now bymonthday.now byyearday.now byweekno.now bydayn.now
-        bydayw.now byhour.now byminute.now bysecond.now bysetpos.now)) }
+pub fn verdict_of(given: &Unvalidated, start: u64) -> Result<(), Refusal>
+    ensures { result ≡ verdict (raw_of given.now start) }
 {
-    let entry = entry_out(
-        bymonth, bymonthday, byyearday, byweekno, bydayn, bydayw, byhour, byminute, bysecond,
-        bysetpos,
+    let lists = &given.lists;
+    let entry = entry_out(lists);
+    let order = not_rising(lists);
+    let alone = positions_alone(lists);
+    let nth = has_nth(lists.bydayn);
+    let mixed = has_every(lists.bydayn) & nth;
+    let misplaced = nth & (!lists.byweekno.is_empty() | (1 < given.freq));
+    let nought = has_nought(given.interval, given.count);
+    let both = count_and_until(given.count, given.until);
+    let stray = is_misplaced(
+        given.freq,
+        !lists.byweekno.is_empty(),
+        !lists.byyearday.is_empty(),
+        !lists.bymonthday.is_empty(),
     );
-    let order = not_rising(
-        bymonth, bymonthday, byyearday, byweekno, bydayn, bydayw, byhour, byminute, bysecond,
-        bysetpos,
-    );
-    let alone = positions_alone(
-        bymonth, bymonthday, byyearday, byweekno, bydayn, bydayw, byhour, byminute, bysecond,
-        bysetpos,
-    );
-    let nth = has_nth(bydayn);
-    let mixed = has_every(bydayn) & nth;
-    let misplaced = nth & ((byweekno.len() != 0) | (1 < freq));
-    let nought = has_nought(interval, count);
-    let both = count_and_until(count, until);
-    let lists = is_misplaced(
-        freq,
-        byweekno.len() != 0,
-        byyearday.len() != 0,
-        bymonthday.len() != 0,
-    );
-    let until = until_out(until);
-    let mut verdict = Verdict::Accepted;
-    verdict = or_refused(verdict, Refusal::FrequencyAbove, 6 < freq);
-    verdict = or_refused(verdict, Refusal::WeekStartAbove, 6 < wkst);
-    verdict = or_refused(verdict, Refusal::StartOut, RANGE_END <= start);
+    let until = is_until_out(given.until);
+    let mut verdict = Ok(());
+    verdict = or_refused(verdict, Refusal::FrequencyAbove, 6 < given.freq);
+    verdict = or_refused(verdict, Refusal::WeekStartAbove, 6 < given.wkst);
+    verdict = or_refused(verdict, Refusal::StartOut, LAST_INSTANT < start);
     verdict = or_refused(verdict, Refusal::UntilOut, until);
     verdict = or_refused(verdict, Refusal::EntryOut, entry);
     verdict = or_refused(verdict, Refusal::NotRising, order);
@@ -267,91 +145,14 @@ pub fn verdict_of(
     verdict = or_refused(verdict, Refusal::PositionsAlone, alone);
     verdict = or_refused(verdict, Refusal::Nought, nought);
     verdict = or_refused(verdict, Refusal::CountAndUntil, both);
-    verdict = or_refused(verdict, Refusal::ListMisplaced, lists);
+    verdict = or_refused(verdict, Refusal::ListMisplaced, stray);
     verdict
 }
 
-// What stands for the record of a refused check.
-pub fn blank_rule() -> Rule
-    ensures { result ≡ blank }
+// The check: the record, filled in; or the lowest refusal that applies.
+pub fn check(given: &Unvalidated, start: u64) -> Result<Rule, Refusal>
+    ensures { result ≡ checked (raw_of given.now start) }
 {
-    let bymonth = [false; 12];
-    let bymonthday = [false; 62];
-    let byyearday = [false; 732];
-    let byweekno = [false; 106];
-    let byday = [false; 749];
-    let byhour = [false; 24];
-    let byminute = [false; 60];
-    let bysecond = [false; 60];
-    let bysetpos = [false; 732];
-    Rule {
-        freq: Frequency::Yearly,
-        interval: 0,
-        count: None,
-        until: None,
-        wkst: 0,
-        start: 0,
-        bymonth,
-        bymonthday,
-        byyearday,
-        byweekno,
-        byday,
-        byhour,
-        byminute,
-        bysecond,
-        bysetpos,
-    }
-}
-
-// The check: the lowest refusal that applies, and a blank record; or the record, filled in.
-pub fn check(
-    freq: u8,
-    interval: u16,
-    count: Option<u32>,
-    until: Option<u64>,
-    wkst: u8,
-    start: u64,
-    bymonth: &[i16],
-    bymonthday: &[i16],
-    byyearday: &[i16],
-    byweekno: &[i16],
-    bydayn: &[i16],
-    bydayw: &[i16],
-    byhour: &[i16],
-    byminute: &[i16],
-    bysecond: &[i16],
-    bysetpos: &[i16],
-) -> Checked
-    ensures { result ≡ checked (raw freq interval count until wkst start (raw_lists
-        bymonth.now bymonthday.now byyearday.now byweekno.now bydayn.now
-        bydayw.now byhour.now byminute.now bysecond.now bysetpos.now)) }
-{
-    let verdict = verdict_of(
-        freq, interval, count, until, wkst, start, bymonth, bymonthday, byyearday, byweekno,
-        bydayn, bydayw, byhour, byminute, bysecond, bysetpos,
-    );
-    let Verdict::Accepted = verdict else {
-        let rule = blank_rule();
-        return Checked { verdict, rule };
-    };
-    let given = given_rule(
-        frequency_of(freq),
-        interval,
-        count,
-        until,
-        wkst,
-        start,
-        bymonth,
-        bymonthday,
-        byyearday,
-        byweekno,
-        bydayn,
-        bydayw,
-        byhour,
-        byminute,
-        bysecond,
-        bysetpos,
-    );
-    let rule = filled(given);
-    Checked { verdict, rule }
+    verdict_of(given, start)?;
+    Ok(filled(&given_rule(given, start)))
 }

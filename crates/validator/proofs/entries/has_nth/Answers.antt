@@ -1,29 +1,14 @@
--- `validator::entries::has_nth` meets its contract: what is asked of the whole list is asked of what is left of it.
+-- `validator::entries::has_nth` meets its contract.
 -- Assumes nothing.
-use Rattle.std.proofs.Common.{rules}
-use mathlib.Core.Path.{refl, sym, ◌∙◌, ap}
-use mathlib.Core.Bool.{not}
-use borrow.Author.Tests.{eq-eqb, ne_eqb}
+use Rattle.std.proofs.Common.{rules, ◌∙◌, tests}
+use Rattle.std.proofs.lemmas.Iterator.{YieldsList-from_slice}
+use Rattle.std.proofs.lemmas.Iterator.Search.{any_from_yields_List}
 use Rattle.rule.specs.Refusals.{is_nth, some_nth}
-use Rattle.rule.proofs.EntryLaws.{every_moved, some_here, some_later, some_none}
+use Rattle.validator.proofs.ListLaws.{some_is}
 use Rattle.validator.proofs.entries.has_nth.Goals as goal
-
-pub loop-i-init : goal.loop-i-init
-loop-i-init c = (search rules, refl)
-
-pub returns-then-entry-ne32768 : goal.returns-then-entry-ne32768
-unfolding some_nth
-returns-then-entry-ne32768 c =
-    let l = c in
-    sym (l.loop-i.invariant.1 ∙ some_here is_nth l.args.ns.now l.loop-i.i (search rules) (ap not (sym (every_moved _ _ c.entry.ensures) ∙ ne_eqb _ _ c.if-entry-ne32768.true)))
-
-pub loop-i-preserved : goal.loop-i-preserved
-loop-i-preserved c =
-    let l = c in
-    (search rules, l.loop-i.invariant.1 ∙ some_later is_nth l.args.ns.now l.loop-i.i (search rules) (ap not (sym (every_moved _ _ c.entry.ensures) ∙ eq-eqb _ _ c.if-entry-ne32768.false)))
 
 pub returns : goal.returns
 unfolding some_nth
 returns c =
-    let l = c in
-    sym (l.loop-i.invariant.1 ∙ some_none is_nth l.args.ns.now l.loop-i.i (search rules))
+    any_from_yields_List is_nth _ _ _ c.any.ensures.ran (YieldsList-from_slice c.args.ns.now cc) (λ x b q k. search (rules, tests))
+    ∙ some_is is_nth c.args.ns.now

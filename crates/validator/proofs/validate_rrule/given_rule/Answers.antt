@@ -1,19 +1,16 @@
 -- `validator::validate_rrule::given_rule` meets its contract.
 -- Assumes nothing.
-use mathlib.Core.Path.{◌∙◌}
+use Rattle.std.proofs.Common.{◌∙◌, ap}
+use Rattle.rule.specs.declared.rrule.Frequency.{Frequency}
+use Rattle.rule.specs.Raw.{lists_of}
+use Rattle.rule.specs.Filling.{given_as, given}
 use Rattle.rule.proofs.RuleLaws.{given_by_parts}
-use Rattle.rule.proofs.SetLaws.{marks_are}
 use Rattle.validator.proofs.validate_rrule.given_rule.Goals as goal
 
 pub returns : goal.returns
+unfolding given
 returns c =
-    given_by_parts _ _ _ _ _ _ _
-    (c.mark_list.ensures ∙ marks_are 12 _)
-    (c.mark_list-2.ensures ∙ marks_are 62 _)
-    (c.mark_list-3.ensures ∙ marks_are 732 _)
-    (c.mark_list-4.ensures ∙ marks_are 106 _)
-    (c.mark_pairs.ensures ∙ marks_are 749 _)
-    (c.mark_list-5.ensures ∙ marks_are 24 _)
-    (c.mark_list-6.ensures ∙ marks_are 60 _)
-    (c.mark_list-7.ensures ∙ marks_are 60 _)
-    (c.mark_list-8.ensures ∙ marks_are 732 _)
+    let g = c.args.raw.now in
+    given_by_parts _ _ _ _ _ _ (lists_of g.lists) c.marked.ensures c.marked-2.ensures c.marked-3.ensures c.marked-4.ensures c.marked_pairs.ensures
+    c.marked-5.ensures c.marked-6.ensures c.marked-7.ensures c.marked-8.ensures
+    ∙ ap (λ (f : Frequency). given_as f g.interval g.count g.until g.wkst c.args.start (lists_of g.lists)) c.frequency_of.ensures
