@@ -1,61 +1,29 @@
 // Whether a record is one that an accepted check yields. Each flag is read once, with no early exit: a run asks this at every call.
 #![tactic(auto)]
 
-ghost use Rattle.std.specs.Prelude.{◌≡◌, ◌-◌, ◌≤◌, length, take, drop};
-ghost use Rattle.rule.specs.Lists.{is_empty};
-ghost use Rattle.rule.specs.Refusals.{until_out};
-ghost use Rattle.rule.specs.Records.{has_every, has_nth, yielded};
+ghost use Rattle.std.specs.Prelude.{◌≡◌};
+ghost use Rattle.rule.specs.Records.{has_every, yielded};
 
-use basics::lists::is_empty;
-use basics::rrule::{count_and_until, frequency_number, has_nought, is_misplaced};
+use basics::lists::{has_nth, is_empty};
+use basics::rrule::{count_and_until, frequency_number, has_nought, is_misplaced, is_until_out};
+use calendar::utils::LAST_INSTANT;
 use rule::rrule::Rule;
 
-// 9999-12-31T23:59:59Z
-const LAST_INSTANT: u64 = 253402300799;
-
-fn until_out(until: Option<u64>) -> bool
-    ensures { result ≡ until_out until }
+// Whether BYDAY's set has an entry with n = 0.
+fn has_every(byday: &[bool; 749]) -> bool
+    ensures { result ≡ has_every byday.now }
 {
-    match until {
-        None => false,
-        Some(t) => LAST_INSTANT < t,
-    }
-}
-
-// Whether a part of a set is empty.
-fn is_empty_part(flags: &[bool], from: usize, to: usize) -> bool
-    requires { (from ≤ to) × (to ≤ length flags.now) }
-    ensures { result ≡ is_empty (take (to - from) (drop from flags.now)) }
-{
-    is_empty(&flags[from..to])
-}
-
-// Whether BYDAY's set has an entry with n = 0, and whether it has one with n not 0.
-fn has_every(days: &[bool]) -> bool
-    requires { length days.now ≡ 749 }
-    ensures { result ≡ has_every days.now }
-{
-    !is_empty_part(days, 371, 378)
-}
-
-fn has_nth(days: &[bool]) -> bool
-    requires { length days.now ≡ 749 }
-    ensures { result ≡ has_nth days.now }
-{
-    !is_empty_part(days, 0, 371) | !is_empty_part(days, 378, 749)
+    !is_empty(&byday[371..378])
 }
 
 // Whether an accepted check yields the record.
-pub fn is_record(rule: Rule) -> bool
-    ensures { result ≡ yielded rule }
+pub fn is_record(rule: &Rule) -> bool
+    ensures { result ≡ yielded rule.now }
 {
-    let freq = rule.freq;
-    let count = rule.count;
-    let until = rule.until;
-    let nought = has_nought(rule.interval, count);
-    let both = count_and_until(count, until);
-    let number = frequency_number(freq);
-    let until = until_out(until);
+    let nought = has_nought(rule.interval, rule.count);
+    let both = count_and_until(rule.count, rule.until);
+    let number = frequency_number(rule.freq);
+    let until = is_until_out(rule.until);
     let every = has_every(&rule.byday);
     let nth = has_nth(&rule.byday);
     let months = is_empty(&rule.bymonth);

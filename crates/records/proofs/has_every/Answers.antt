@@ -5,4 +5,4 @@ use Rattle.records.proofs.has_every.Goals as goal
 
 pub returns : goal.returns
 unfolding has_every
-returns c = rw c.is_empty_part.ensures
+returns c = rw c.is_empty.ensures
