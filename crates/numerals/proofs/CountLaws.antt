@@ -1,5 +1,6 @@
 -- Which digit may come of a number up to a highest, of one to three digits and of a field, and what is then kept.
 -- Assumes nothing.
+use Rattle.std.specs.Prelude.{Result, IfOk}
 use Prim.Native.Nat.{ℕ, zero, suc, ◌+◌, ◌-◌, ◌*◌, ◌≤◌, ◌<◌}
 use native.Mathlib.Nat.{mul-le-mul}
 use native.Mathlib.Numerals.{add-one}
@@ -13,7 +14,7 @@ use borrow.Author.Tests.{leb-true, ltb-true, eqb-true, le-leb, lt-leb, lt-ltb, l
 use Rattle.symbols.specs.Takes.{took}
 use Rattle.symbols.specs.Counts.{up_to, three, field, ten_to}
 use Rattle.symbols.proofs.Cuts.{and_both}
-use Rattle.recur.specs.declared.Reached.{Reached}
+use Rattle.recur.specs.declared.Symbol.{Symbol}
 use Rattle.recur.specs.Shown.{shown}
 use Rattle.numerals.proofs.TestLaws.{test_is}
 use Rattle.numerals.proofs.DigitLaws.{Taken}
@@ -76,9 +77,9 @@ few_more low {at} {i} {v} {t} l f k =
     record { count = omega arith; below = omega arith }
 
 -- what is shown isn't above what is read
-pub shown_small : {r : Reached} (w : Bool) (i v : ℕ) → r ≡ shown (took w i [] v) → v ≤ 999 → r.value ≤ 999
+pub shown_small : {r : Result (Symbol ℕ) ℕ} (w : Bool) (i v : ℕ) → r ≡ shown (took w i [] v) → v ≤ 999 → IfOk r (λ s. s.value ≤ 999)
 shown_small true i v e h = rw e h
-shown_small false i v e h = rw e (omega arith)
+shown_small false i v e h = rw e tt
 
 -- ---- a field
 

@@ -1,17 +1,17 @@
 // Numbers in digits, with or without a sign, each read as far as some number of its kind goes.
 #![tactic(auto)]
 
-ghost use Rattle.std.specs.Prelude.{◌≡◌, [], ◌+◌, ◌-◌, ◌*◌, ◌≤◌, length, drop, get_or, pos, if◌then◌else◌};
+ghost use Rattle.std.specs.Prelude.{◌≡◌, [], ◌+◌, ◌-◌, ◌*◌, ◌≤◌, length, drop, get_or, pos, if◌then◌else◌, IfOk};
 ghost use Rattle.symbols.specs.Languages.{is_digit};
 ghost use Rattle.symbols.specs.Takes.{took};
 ghost use Rattle.symbols.specs.Readers.{may_take, digits, head_is};
 ghost use Rattle.symbols.specs.Counts.{up_to, three, field, ten_to};
 ghost use Rattle.recur.specs.Grammar.{below};
 ghost use Rattle.recur.specs.Reading.{signed_at, entry_at, nth_at, field_at};
-ghost use Rattle.recur.specs.Shown.{shown, shown_entry};
+ghost use Rattle.recur.specs.Shown.{shown};
 ghost use Rattle.numerals.specs.Bytes.{passes, DigitAt, entry_of};
 
-use recur::{Reached, ReachedEntry};
+use recur::Symbol;
 
 // Whether this byte stands at a place.
 pub fn is_at(text: &[u8], place: usize, byte: u8) -> bool
@@ -42,22 +42,14 @@ fn with_digit(text: &[u8], place: usize, value: u64) -> u64
     value * 10 + ((text[place] - 48) as u64)
 }
 
-// What a reader of digits answers; the value of a number that isn't whole is 0.
-fn reached(whole: bool, place: usize, value: u64) -> Reached
+// What a reader of digits answers.
+fn reached(whole: bool, place: usize, value: u64) -> Result<Symbol<u64>, usize>
     ensures { result ≡ shown (took whole place [] value) }
 {
     if whole {
-        return Reached {
-            whole: true,
-            place,
-            value,
-        };
+        return Ok(Symbol { place, value });
     }
-    Reached {
-        whole: false,
-        place,
-        value: 0,
-    }
+    Err(place)
 }
 
 // Whether a digit stands at a place with which the number isn't above a highest.
@@ -72,7 +64,7 @@ fn number_goes_on(text: &[u8], place: usize, value: u64, high: u64) -> bool
 }
 
 // A number of one digit or more, not above a highest.
-pub fn number_at(text: &[u8], at: usize, high: u64) -> Reached
+pub fn number_at(text: &[u8], at: usize, high: u64) -> Result<Symbol<u64>, usize>
     requires { (at ≤ length text.now) × (high ≤ 4294967295) }
     ensures { result ≡ shown (digits (up_to high) 0 0 at (drop at text.now)) }
 {
@@ -103,10 +95,10 @@ fn three_go_on(text: &[u8], place: usize, count: usize, value: u64, low: u64) ->
 }
 
 // One to three digits; `low` is 1 where the number may not be 0.
-fn three_at(text: &[u8], at: usize, low: u64) -> Reached
+fn three_at(text: &[u8], at: usize, low: u64) -> Result<Symbol<u64>, usize>
     requires { at ≤ length text.now }
     ensures value { result ≡ shown (digits (three low) 0 0 at (drop at text.now)) }
-    ensures value_bound { result.value ≤ 999 }
+    ensures value_bound { IfOk result (λ number. number.value ≤ 999) }
 {
     let mut place = at;
     let mut value = 0;
@@ -158,7 +150,13 @@ fn field_goes_on(
 }
 
 // So many digits, of a number from `low` to `high`.
-pub fn field_at(text: &[u8], at: usize, wide: usize, low: u64, high: u64) -> Reached
+pub fn field_at(
+    text: &[u8],
+    at: usize,
+    wide: usize,
+    low: u64,
+    high: u64,
+) -> Result<Symbol<u64>, usize>
     requires { (at ≤ length text.now) × (1 ≤ wide) × (wide ≤ 4) × (low ≤ 9999) × (high ≤ 9999) }
     ensures { result ≡ shown (field_at wide low high at (drop at text.now)) }
 {
@@ -181,21 +179,21 @@ fn signed(negative: bool, size: u64) -> i16
 }
 
 // A number as an entry, with a minus or without.
-fn as_entry(negative: bool, number: Reached) -> ReachedEntry
-    requires { number.value ≤ 999 }
+fn as_entry(negative: bool, number: Result<Symbol<u64>, usize>) -> Result<Symbol<i16>, usize>
+    requires { IfOk number (λ size. size.value ≤ 999) }
     ensures { result ≡ entry_of negative number }
 {
-    ReachedEntry {
-        whole: number.whole,
-        place: number.place,
-        value: signed(negative, number.value),
-    }
+    let size = number?;
+    Ok(Symbol {
+        place: size.place,
+        value: signed(negative, size.value),
+    })
 }
 
 // A number that may have a sign; `low` is 1 where it may not be 0.
-fn signed_at(text: &[u8], at: usize, low: u64) -> ReachedEntry
+fn signed_at(text: &[u8], at: usize, low: u64) -> Result<Symbol<i16>, usize>
     requires { at ≤ length text.now }
-    ensures { result ≡ shown_entry (signed_at low at (drop at text.now)) }
+    ensures { result ≡ shown (signed_at low at (drop at text.now)) }
 {
     if is_at(text, at, b'-') {
         return as_entry(true, three_at(text, at + 1, low));
@@ -207,9 +205,9 @@ fn signed_at(text: &[u8], at: usize, low: u64) -> ReachedEntry
 }
 
 // An entry of a list of numbers.
-pub fn entry_at(text: &[u8], at: usize, signs: bool) -> ReachedEntry
+pub fn entry_at(text: &[u8], at: usize, signs: bool) -> Result<Symbol<i16>, usize>
     requires { at ≤ length text.now }
-    ensures { result ≡ shown_entry (entry_at signs at (drop at text.now)) }
+    ensures { result ≡ shown (entry_at signs at (drop at text.now)) }
 {
     if signs {
         return signed_at(text, at, 0);
@@ -218,16 +216,15 @@ pub fn entry_at(text: &[u8], at: usize, signs: bool) -> ReachedEntry
 }
 
 // The number before a weekday, or 0 where none stands there.
-pub fn nth_at(text: &[u8], at: usize) -> ReachedEntry
+pub fn nth_at(text: &[u8], at: usize) -> Result<Symbol<i16>, usize>
     requires { at ≤ length text.now }
-    ensures { result ≡ shown_entry (nth_at at (drop at text.now)) }
+    ensures { result ≡ shown (nth_at at (drop at text.now)) }
 {
     if is_digit_at(text, at) | (is_at(text, at, b'+') | is_at(text, at, b'-')) {
         return signed_at(text, at, 1);
     }
-    ReachedEntry {
-        whole: true,
+    Ok(Symbol {
         place: at,
         value: 0,
-    }
+    })
 }
