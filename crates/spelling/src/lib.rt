@@ -2,16 +2,16 @@
 // how far the text begins some word.
 #![tactic(auto)]
 
-ghost use Rattle.std.specs.Prelude.{◌≡◌, ◌+◌, ◌≤◌, length, drop, false, [], if◌then◌else◌};
+ghost use Rattle.std.specs.Prelude.{◌≡◌, ◌+◌, ◌≤◌, length, map, drop, []};
 ghost use Rattle.symbols.specs.Languages.{upper};
-ghost use Rattle.symbols.specs.Readers.{best, chosen, word};
+ghost use Rattle.symbols.specs.Readers.{chosen, word};
 ghost use Rattle.recur.specs.Grammar.{names};
 ghost use Rattle.recur.specs.Reading.{freq_at, weekday_at};
 ghost use Rattle.recur.specs.Places.{used_by};
 ghost use Rattle.recur.specs.Shown.{shown};
 ghost use Rattle.spelling.specs.Offers.{InCommon, Offered, Chosen};
 
-use recur::Reached;
+use recur::Symbol;
 use symbols::Best;
 
 // A letter's capital; every other byte is its own.
@@ -50,124 +50,98 @@ fn offered(best: Best, which: usize, place: usize, word: &[u8], text: &[u8], at:
     requires { at + best.count ≤ length text.now }
     ensures { Offered best which place word.now text.now at result }
 {
-    if best.found {
-        return best;
-    }
-    if 0 < place {
+    if best.which.is_some() | (0 < place) {
         return best;
     }
     let count = in_common(word, text, at);
     if count == word.len() {
         return Best {
-            found: true,
+            which: Some(which),
             count,
-            which,
         };
     }
     if best.count < count {
-        return Best {
-            found: false,
-            count,
-            which: 0,
-        };
+        return Best { which: None, count };
     }
     best
 }
 
-// No word is asked yet.
-const NONE: Best = Best {
-    found: false,
-    count: 0,
-    which: 0,
-};
-
-// The number of the word that is found.
-fn value_of(best: Best) -> u64
-    ensures { result ≡ (if best.found then best.which else 0) }
+// The best match of the words of a table, each unless it is used up.
+fn best_of(words: &[&[u8]], places: &[usize], text: &[u8], at: usize) -> Best
+    requires { (at ≤ length text.now) × (length places.now ≡ length words.now) }
+    ensures { Chosen (map (λ w. w.now) words.now) (used_by places.now) text.now at result }
 {
-    if best.found {
-        return best.which as u64;
+    let mut best = Best {
+        which: None,
+        count: 0,
+    };
+    for (which, word) in words.iter().enumerate() {
+        best = offered(best, which, places[which], word, text, at);
     }
-    0
+    best
 }
 
 // What the best match of a table comes to.
-fn reached(best: Best, at: usize) -> Reached
+fn reached(best: Best, at: usize) -> Result<Symbol<u64>, usize>
     requires { at + best.count ≤ 9223372036854775807 }
     ensures { result ≡ shown (chosen best at []) }
 {
-    let value = value_of(best);
     let place = at + best.count;
-    Reached {
-        whole: best.found,
-        place,
-        value,
+    match best.which {
+        Some(which) => Ok(Symbol {
+            place,
+            value: which as u64,
+        }),
+        None => Err(place),
     }
 }
 
 // A frequency.
-pub fn frequency_at(text: &[u8], at: usize) -> Reached
+pub fn frequency_at(text: &[u8], at: usize) -> Result<Symbol<u64>, usize>
     requires { at ≤ length text.now }
     ensures { result ≡ shown (freq_at at (drop at text.now)) }
 {
-    let mut best = offered(NONE, 0, 0, b"YEARLY", text, at);
-    best = offered(best, 1, 0, b"MONTHLY", text, at);
-    best = offered(best, 2, 0, b"WEEKLY", text, at);
-    best = offered(best, 3, 0, b"DAILY", text, at);
-    best = offered(best, 4, 0, b"HOURLY", text, at);
-    best = offered(best, 5, 0, b"MINUTELY", text, at);
-    best = offered(best, 6, 0, b"SECONDLY", text, at);
-    reached(best, at)
+    let words: [&[u8]; 7] = [
+        b"YEARLY",
+        b"MONTHLY",
+        b"WEEKLY",
+        b"DAILY",
+        b"HOURLY",
+        b"MINUTELY",
+        b"SECONDLY",
+    ];
+    reached(best_of(&words, &[0; 7], text, at), at)
 }
 
 // A weekday.
-pub fn weekday_at(text: &[u8], at: usize) -> Reached
+pub fn weekday_at(text: &[u8], at: usize) -> Result<Symbol<u64>, usize>
     requires { at ≤ length text.now }
     ensures { result ≡ shown (weekday_at at (drop at text.now)) }
 {
-    let mut best = offered(NONE, 0, 0, b"MO", text, at);
-    best = offered(best, 1, 0, b"TU", text, at);
-    best = offered(best, 2, 0, b"WE", text, at);
-    best = offered(best, 3, 0, b"TH", text, at);
-    best = offered(best, 4, 0, b"FR", text, at);
-    best = offered(best, 5, 0, b"SA", text, at);
-    best = offered(best, 6, 0, b"SU", text, at);
-    reached(best, at)
-}
-
-// The best match of the first seven names that aren't used up.
-fn first_names(text: &[u8], at: usize, places: [usize; 14]) -> Best
-    requires { at ≤ length text.now }
-    ensures { Chosen names (used_by places) 7 0 (best false 0 0) text.now at result }
-{
-    let mut best = offered(NONE, 0, places[0], b"FREQ=", text, at);
-    best = offered(best, 1, places[1], b"INTERVAL=", text, at);
-    best = offered(best, 2, places[2], b"COUNT=", text, at);
-    best = offered(best, 3, places[3], b"UNTIL=", text, at);
-    best = offered(best, 4, places[4], b"WKST=", text, at);
-    best = offered(best, 5, places[5], b"BYMONTH=", text, at);
-    offered(best, 6, places[6], b"BYMONTHDAY=", text, at)
-}
-
-// The best match with the other seven.
-fn other_names(first: Best, text: &[u8], at: usize, places: [usize; 14]) -> Best
-    requires { at + first.count ≤ length text.now }
-    ensures { Chosen names (used_by places) 7 7 first text.now at result }
-{
-    let mut best = offered(first, 7, places[7], b"BYYEARDAY=", text, at);
-    best = offered(best, 8, places[8], b"BYWEEKNO=", text, at);
-    best = offered(best, 9, places[9], b"BYDAY=", text, at);
-    best = offered(best, 10, places[10], b"BYHOUR=", text, at);
-    best = offered(best, 11, places[11], b"BYMINUTE=", text, at);
-    best = offered(best, 12, places[12], b"BYSECOND=", text, at);
-    offered(best, 13, places[13], b"BYSETPOS=", text, at)
+    let words: [&[u8]; 7] = [b"MO", b"TU", b"WE", b"TH", b"FR", b"SA", b"SU"];
+    reached(best_of(&words, &[0; 7], text, at), at)
 }
 
 // A part's name with its `=`, unless it is used up: `places` tells where the values of the parts before stand, and 0 where a name is open.
-pub fn name_at(text: &[u8], at: usize, places: [usize; 14]) -> Reached
+pub fn name_at(text: &[u8], at: usize, places: [usize; 14]) -> Result<Symbol<u64>, usize>
     requires { at ≤ length text.now }
     ensures { result ≡ shown (word names (used_by places) at (drop at text.now)) }
 {
-    let first = first_names(text, at, places);
-    reached(other_names(first, text, at, places), at)
+    let words: [&[u8]; 14] = [
+        b"FREQ=",
+        b"INTERVAL=",
+        b"COUNT=",
+        b"UNTIL=",
+        b"WKST=",
+        b"BYMONTH=",
+        b"BYMONTHDAY=",
+        b"BYYEARDAY=",
+        b"BYWEEKNO=",
+        b"BYDAY=",
+        b"BYHOUR=",
+        b"BYMINUTE=",
+        b"BYSECOND=",
+        b"BYSETPOS=",
+    ];
+    reached(best_of(&words, &places, text, at), at)
 }

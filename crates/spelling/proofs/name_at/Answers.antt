@@ -1,8 +1,13 @@
--- `spelling::name_at` meets its contract: seven names are offered, and seven more.
+-- `spelling::name_at` meets its contract.
 -- Assumes nothing.
-use mathlib.Core.Path.{◌∙◌}
-use Rattle.spelling.proofs.OfferLaws.{read_name}
+use mathlib.Core.Path.{ap, ◌∙◌}
+use mathlib.Core.List.{[]}
+use Rattle.symbols.specs.declared.Best.{Best}
+use Rattle.symbols.specs.Readers.{chosen, word}
+use Rattle.recur.specs.Grammar.{none_used}
+use Rattle.recur.specs.Shown.{shown}
 use Rattle.spelling.proofs.name_at.Goals as goal
 
 pub returns : goal.returns
-returns c = c.reached.ensures ∙ read_name _ _ _ _ _ c.first_names-first.ensures.is c.other_names.ensures.is
+unfolding word none_used
+returns c = c.reached.ensures ∙ ap (λ (k : Best). shown (chosen k c.args.at [])) c.best_of.ensures.is
