@@ -1,5 +1,6 @@
 pub mod AnswersComputed
 pub mod Parted
+pub mod ShownLaws
 pub mod Heads
 pub mod Instances
 pub mod Moments

@@ -2,39 +2,24 @@
 -- Assumes nothing.
 use native.Mathlib.Omega.{arith}
 use mathlib.Core.Path.{sym, ◌∙◌}
-use borrow.Author.Tests.{not-true, not-false}
+use Rattle.std.proofs.Common.{rules}
 use Rattle.symbols.specs.Counts.{ten_to}
 use Rattle.moments.proofs.FieldLaws.{WholeField, ends_within, no_number, no_letter, with_letter}
 use Rattle.moments.proofs.lettered_at.Goals as goal
-use Rattle.moments.proofs.lettered_at.Goals.{Else-not-number}
+use Rattle.moments.proofs.lettered_at.Goals.{In_ok-number}
 
-pub returns-then-not-number : goal.returns-then-not-number
-returns-then-not-number c =
-    let a = c.args in
-    no_number a.low a.high a.letter a.text.now a.at _ c.field_at-number.ensures (not-true _ c.if-not-number.true)
+pub returns-in_err-number : goal.returns-in_err-number
+returns-in_err-number c =
+    let stopped = no_number _ _ c.args.letter _ _ _ c.in_err-number.ensures in
+    search (rules, stopped)
 
 -- the number is whole
-number : (c : Else-not-number) → (let a = c.args in
-    WholeField 2 a.low a.high a.text.now a.at c.field_at-number.result)
+number : (c : In_ok-number) → (let a = c.args in WholeField 2 a.low a.high a.text.now a.at c.in_ok-number.number)
 unfolding ten_to
-number c = record {
-  is = c.field_at-number.ensures;
-  whole = not-false _ c.if-not-number.false;
-  some = omega arith;
-  fits = omega arith;
-  within = omega arith;
-}
+number c = record { is = c.in_ok-number.ensures; some = omega arith; fits = omega arith; within = omega arith }
 
 pub returns-then-not-is_at : goal.returns-then-not-is_at
-returns-then-not-is_at c =
-    let n = c in
-    no_letter _ _ n.args.letter _ _ _ (number (goal.at.returns-then-not-is_at c).Else-not-number) (sym c.is_at.ensures ∙ not-true _ c.if-not-is_at.true-raw)
-
-pub overflow_add-result : goal.overflow_add-result
-overflow_add-result c = omega (arith, ends_within (number (goal.at.overflow_add-result c).Else-not-number))
+returns-then-not-is_at c = no_letter _ _ _ _ _ _ (number (goal.at.returns-then-not-is_at c).In_ok-number) (sym c.is_at.ensures ∙ c.if-not-is_at.true)
 
 pub returns : goal.returns
-returns c =
-    let n = c in
-    with_letter _ _ n.args.letter _ _ _ (number (goal.at.returns c).Else-not-number)
-    (sym c.is_at.ensures ∙ not-false _ c.if-not-is_at.false-raw)
+returns c = with_letter _ _ _ _ _ _ (number (goal.at.returns c).In_ok-number) (sym c.is_at.ensures ∙ c.if-not-is_at.false)
