@@ -22,10 +22,6 @@ pub few_days : (a : Asked) (info : IterInfo) (l : DayLists) (from to : ℕ) → 
 unfolding day_set
 few_days a info l from to = omega (arith, passing_short (place_passes a info l) (min to 373 - from) from)
 
--- a day set from the numbers that the code has
-pub same_days : (a : Asked) (info : IterInfo) (l : DayLists) (x y from to : ℕ) → x ≡ from → y ≡ to → day_set a info l x y ≡ day_set a info l from to
-same_days a info l x y from to e f = ap (λ (z : ℕ). day_set a info l z y) e ∙ ap (day_set a info l from) f
-
 both_false : (b : Bool) → (b && false) ≡ false
 both_false true = refl
 both_false false = refl

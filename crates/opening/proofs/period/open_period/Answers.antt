@@ -6,103 +6,90 @@ use mathlib.Core.List.{List}
 use native.Mathlib.Omega.{arith}
 use lib.ListN.{length}
 use lib.Seq.{sets}
-use Rattle.years.specs.declared.iterinfo.IterInfo.{IterInfo}
-use Rattle.years.specs.Info.{info_by}
-use Rattle.days.specs.Filters.{DayLists, day_lists}
+use Rattle.days.specs.Filters.{rule_lists}
 use Rattle.days.specs.DaySets.{day_set}
 use Rattle.walks.specs.declared.rrule_iter.Frame.{Frame}
 use Rattle.opening.specs.Opening.{frame_of, kept_count, chosen_over, days_by}
-use Rattle.opening.proofs.PeriodLaws.{few_days, same_days, no_day_lem, too_many, some_days}
+use Rattle.opening.proofs.PeriodLaws.{few_days, no_day_lem, too_many, some_days}
 use Rattle.opening.proofs.period.open_period.Goals as goal
-use Rattle.opening.proofs.period.open_period.Goals.{After-frame_of-frame, After-period_days-count, Start}
+use Rattle.opening.proofs.period.open_period.Goals.{After-frame_of-frame, After-period_days-count}
 
--- ---- what was given: the year, the lists, the passing days, and the frame of so many
+-- ---- the passing days, and the frame of so many
 
-abbrev info : Start → IterInfo
-info s = let a = s.args in info_by a.year a.months.now a.monthdays.now a.fromends.now a.weeks.now a.nths.now
+abbrev days : After-period_days-count → List ℕ
+days c = let a = c.args in days_by a.plan.now.shape a.info.now (rule_lists a.rule.now) a.span
 
-abbrev lists : Start → DayLists
-lists s = let a = s.args in day_lists a.bymonth.now a.bymonthday.now a.byyearday.now a.byday.now
-
-abbrev days : Start → List ℕ
-days s = days_by s.args.shape (info s) (lists s) s.args.span
-
-abbrev frame : Start → Frame
-frame s = let a = s.args in frame_of a.shape.freq a.shape.counts a.tick a.year.first (length (days s)) a.clock.now
+abbrev frame : After-frame_of-frame → Frame
+frame c =
+    let a = c.args in
+    frame_of a.plan.now.shape.freq a.plan.now.shape.counts a.tick a.info.now.year.first (length (days_by a.plan.now.shape a.info.now (rule_lists a.rule.now) a.span)) a.plan.now.clock
 
 -- ---- what is told, call by call
 
-abbrev begun : After-period_days-count → Start
-begun c = c.before.before.before.before.before
-
 told_days : (c : After-period_days-count) →
-    let s = begun c in
-    day_set s.args.shape.asked (info s) (lists s) c.place_from.result c.place_from-2.result ≡ days s
-told_days c =
-    let s = begun c in
-    same_days s.args.shape.asked (info s) (lists s) _ _ _ _ c.place_from.ensures c.place_from-2.ensures
+    let a = c.args in
+    day_set a.plan.now.shape.asked a.info.now (rule_lists a.rule.now) c.saturating_sub-from.result c.saturating_sub-to.result ≡ days c
+told_days c = rw (c.saturating_sub-from.ensures, c.saturating_sub-to.ensures)
 
-told_count : (c : After-period_days-count) → c.period_days-count.result ≡ length (days (begun c))
+told_count : (c : After-period_days-count) → c.period_days-count.result ≡ length (days c)
 told_count c = c.period_days-count.ensures.count ∙ ap (λ (l : List ℕ). length l) (told_days c)
 
-abbrev counted : After-frame_of-frame → After-period_days-count
-counted c = c.before.before.before
+told_places : (c : After-period_days-count) → c.period_days-count.new.days ≡ sets c.args.opened.now.days 0 (days c)
+told_places c = c.period_days-count.ensures.places ∙ ap (sets c.args.opened.now.days 0) (told_days c)
 
-told_frame : (c : After-frame_of-frame) → c.frame_of-frame.result ≡ frame (begun (counted c))
-told_frame c =
-    let a = (begun (counted c)).args in
-    c.frame_of-frame.ensures
-    ∙ ap (λ (n : ℕ). frame_of a.shape.freq a.shape.counts a.tick a.year.first n a.clock.now) (told_count (counted c))
+told_frame : (c : After-frame_of-frame) → c.period_days-count.result ≡ length (days_by c.args.plan.now.shape c.args.info.now (rule_lists c.args.rule.now) c.args.span)
+    → c.frame_of-frame.result ≡ frame c
+told_frame c e = rw (c.frame_of-frame.ensures, e)
 
 -- ---- the calls' conditions, and the answers
 
 pub returns-then-count-eq0 : goal.returns-then-count-eq0
 returns-then-count-eq0 c =
-    let here = goal.at.returns-then-count-eq0 c in
-    let d = c in
-    let s = here.Start in
-    let a = s.args in
-    let none : length (days s) ≡ 0 = sym (told_count here.After-period_days-count) ∙ c.if-count-eq0.true in
-    let closed = no_day_lem a.shape a.year.first (length (days s)) a.tick a.clock.now a.bysetpos.now none in record { period = c.none_kept.ensures ∙ sym closed.0; days = d.period_days-count.ensures.places ∙ ap (sets a.days.now 0) (told_days here.After-period_days-count); places = sym (closed.1 a.places.now) }
+    let d = (goal.at.returns-then-count-eq0 c).After-period_days-count in
+    let a = c.args in
+    let closed = no_day_lem a.plan.now.shape a.info.now.year.first (length (days d)) a.tick a.plan.now.clock a.rule.now.bysetpos (sym (told_count d) ∙ c.if-count-eq0.true) in record {
+      period = c.none_kept-opened.ensures ∙ sym closed.0;
+      days = told_places d;
+      places = sym (closed.1 a.opened.now.places);
+    }
 
 pub returns-then-frame-gt86400 : goal.returns-then-frame-gt86400
 returns-then-frame-gt86400 c =
-    let here = goal.at.returns-then-frame-gt86400 c in
-    let f = c in
-    let d = here.After-period_days-count in
-    let s = begun d in
-    let a = s.args in
-    let many : 86400 < (frame s).times = subst (λ (x : Frame). 86400 < x.times) (told_frame here.After-frame_of-frame) (omega (arith, c.if-frame-gt86400.true)) in
-    let closed = too_many a.shape a.year.first (length (days s)) a.tick a.clock.now a.bysetpos.now many in record { period = c.none_kept-then-frame-gt86400.ensures ∙ sym closed.0; days = d.period_days-count.ensures.places ∙ ap (sets a.days.now 0) (told_days d); places = sym (closed.1 a.places.now) }
+    let d = (goal.at.returns-then-frame-gt86400 c).After-period_days-count in
+    let f = (goal.at.returns-then-frame-gt86400 c).After-frame_of-frame in
+    let a = c.args in
+    let many : 86400 < (frame f).times = subst (λ (x : Frame). 86400 < x.times) (told_frame f (told_count d)) c.if-frame-gt86400.true in
+    let closed = too_many a.plan.now.shape a.info.now.year.first (length (days d)) a.tick a.plan.now.clock a.rule.now.bysetpos many in record {
+      period = c.none_kept-opened-then-frame-gt86400.ensures ∙ sym closed.0;
+      days = told_places d;
+      places = sym (closed.1 a.opened.now.places);
+    }
 
 pub kept_of-kept-requires : goal.kept_of-kept-requires
 unfolding frame_of
 kept_of-kept-requires c =
-    let here = goal.at.kept_of-kept-requires c in
-    let f = c in
-    let s = here.Start in
-    let a = s.args in (
-      subst (λ (x : Frame). x.days ≤ 373) (sym (told_frame here.After-frame_of-frame)) (few_days a.shape.asked (info s) (lists s) _ _),
+    let d = (goal.at.kept_of-kept-requires c).After-period_days-count in
+    let f = (goal.at.kept_of-kept-requires c).After-frame_of-frame in
+    let a = c.args in (
+      subst (λ (x : Frame). x.days ≤ 373) (sym (told_frame f (told_count d))) (few_days a.plan.now.shape.asked a.info.now (rule_lists a.rule.now) _ _),
       omega (arith, c.if-frame-gt86400.false),
     )
 
 pub returns : goal.returns
 unfolding frame_of
 returns c =
-    let here = goal.at.returns c in
-    let e = c in
-    let f = e in
-    let d = here.After-period_days-count in
-    let s = begun d in
-    let a = s.args in
-    let some : 0 < length (days s) = subst (λ (n : ℕ). 0 < n) (told_count d) (omega (arith, f.if-count-eq0.false)) in
-    let few : (frame s).times ≤ 86400 = subst (λ (x : Frame). x.times ≤ 86400) (told_frame here.After-frame_of-frame) (omega (arith, e.if-frame-gt86400.false)) in
-    let kept = some_days a.shape a.year.first (length (days s)) a.tick a.clock.now a.bysetpos.now some few in record {
-      period = ap (λ (n : ℕ). record { frame = f.frame_of-frame.result; kept = n }) c.kept_of-kept.ensures.count
-          ∙ ap (λ (x : Frame). record { frame = x; kept = kept_count a.shape.positioned a.bysetpos.now x.days x.times }) (told_frame here.After-frame_of-frame)
+    let d = (goal.at.returns c).After-period_days-count in
+    let f = (goal.at.returns c).After-frame_of-frame in
+    let a = c.args in
+    let told = told_frame f (told_count d) in
+    let some : 0 < length (days d) = subst (λ (n : ℕ). 0 < n) (told_count d) (omega (arith, c.if-count-eq0.false)) in
+    let few : (frame f).times ≤ 86400 = subst (λ (x : Frame). x.times ≤ 86400) told (omega (arith, c.if-frame-gt86400.false)) in
+    let kept = some_days a.plan.now.shape a.info.now.year.first (length (days d)) a.tick a.plan.now.clock a.rule.now.bysetpos some few in record {
+      period = ap (λ (n : ℕ). record { frame = c.frame_of-frame.result; kept = n }) c.kept_of-kept.ensures.count
+          ∙ ap (λ (x : Frame). record { frame = x; kept = kept_count a.plan.now.shape.positioned a.rule.now.bysetpos x.days x.times }) told
           ∙ sym kept.0;
-      days = d.period_days-count.ensures.places ∙ ap (sets a.days.now 0) (told_days d);
+      days = told_places d;
       places = c.kept_of-kept.ensures.chosen
-          ∙ ap (λ (x : Frame). chosen_over a.shape.positioned a.bysetpos.now x.days x.times a.places.now) (told_frame here.After-frame_of-frame)
-          ∙ sym (kept.1 a.places.now);
+          ∙ ap (λ (x : Frame). chosen_over a.plan.now.shape.positioned a.rule.now.bysetpos x.days x.times a.opened.now.places) told
+          ∙ sym (kept.1 a.opened.now.places);
     }
