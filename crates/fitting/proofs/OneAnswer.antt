@@ -5,9 +5,9 @@ use Rattle.calendar.proofs.Determines.{Determines, one_answer}
 use Rattle.fitting.proofs.cursors.is_fit.Kinds as is-fit-kinds
 use Rattle.fitting.proofs.cursors.is_fit.Reads as is-fit
 
-pub is_fit_has_one : Determines 3 is-fit-kinds.ps is-fit-kinds.r is-fit.Post
+pub is_fit_has_one : Determines 2 is-fit-kinds.ps is-fit-kinds.r is-fit.Post
 is_fit_has_one κs a x y e f = one_answer
 
 -- and it asks nothing of its callers
-pub is_fit_asks_nothing : AsksNothing 3 is-fit-kinds.ps is-fit.requires
+pub is_fit_asks_nothing : AsksNothing 2 is-fit-kinds.ps is-fit.requires
 is_fit_asks_nothing κs a = nothing_asked

@@ -1,20 +1,15 @@
 -- `fitting::cursors::next_second` meets its contract.
 -- Assumes nothing.
-use Rattle.std.proofs.Common.{rules}
-use Prim.Native.Nat.{ℕ}
-use mathlib.Core.Path.{ap, ◌∙◌}
 use borrow.Author.Tests.{lt-ltb, le-ltb}
-use Rattle.walks.specs.Walks.{candidate_at}
+use native.Mathlib.Omega.{arith}
 use Rattle.fitting.specs.Fitting.{next_of}
 use Rattle.fitting.proofs.cursors.next_second.Goals as goal
 
-pub returns-then-period-i : goal.returns-then-period-i
+pub returns-then-opened-i : goal.returns-then-opened-i
 unfolding next_of
-returns-then-period-i c = let a = c.args in rw (le-ltb a.i a.period.kept (search rules))
+returns-then-opened-i c = rw (le-ltb c.args.i c.args.opened.now.period.kept c.if-opened-i.true)
 
 pub returns : goal.returns
 unfolding next_of
 returns c =
-    let a = c.args in
-    rw (lt-ltb a.i a.period.kept (search rules))
-    (c.candidate_at.ensures ∙ ap (λ (j : ℕ). candidate_at a.period.frame a.days.now a.lists.now j) c.candidate_of.ensures)
+    rw (lt-ltb c.args.i c.args.opened.now.period.kept (omega (arith, c.if-opened-i.false)), c.candidate_at.ensures, c.candidate_of-number.ensures)

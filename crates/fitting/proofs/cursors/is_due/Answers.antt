@@ -1,6 +1,0 @@
--- `fitting::cursors::is_due` meets its contract.
--- Assumes nothing.
-use Rattle.fitting.proofs.cursors.is_due.Goals as goal
-
-pub returns : goal.returns
-returns c = rw (c.is_below.ensures, c.less.ensures)
