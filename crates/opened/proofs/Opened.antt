@@ -10,6 +10,7 @@ use native.Mathlib.Omega.{arith}
 use lib.Dec.{leb, ltb}
 use lib.ListN.{length, get_or, length-map}
 use lib.Seq.{length-sets}
+use Rattle.std.proofs.lemmas.List.{get_or-map, nil_from_length}
 use borrow.Author.Tests.{not-true, not-false, le-leb, lt-ltb, ltb-false}
 use Rattle.calendar.specs.Calendar.{year_length, new_year}
 use Rattle.rule.specs.declared.rrule.Rule.{Rule}
@@ -50,11 +51,6 @@ use Rattle.opened.proofs.Fitting.{fit_poised}
 use Rattle.opened.proofs.Tables.{is_tabled, block_of}
 use Rattle.opened.proofs.Yielded.{Good, good}
 
-get_d_map_below : (f : ℕ → ℕ) (xs : List ℕ) (j : ℕ) → j < length xs → get_or (map f xs) j 0 ≡ f (get_or xs j 0)
-get_d_map_below f [] j h = absurd (omega arith)
-get_d_map_below f (x ∷ xs) zero h = refl
-get_d_map_below f (x ∷ xs) (suc j) h = get_d_map_below f xs j (omega arith)
-
 -- one number that is tried
 one_tried : (p : ℕ → Bool) (i : ℕ) → p i ≡ ltb 0 (length (passing p 1 i))
 unfolding passing gather
@@ -81,10 +77,6 @@ none_counted : (positioned : Bool) (bysetpos : List Bool) (days times : ℕ) →
 unfolding kept_count
 none_counted true bysetpos days times e = ap (λ (l : List ℕ). length l) (no_places bysetpos (days * times) (rw e (zero-mul times)))
 none_counted false bysetpos days times e = rw e (zero-mul times)
-
-empty_list : (xs : List ℕ) → length xs ≡ 0 → xs ≡ []
-empty_list [] e = refl
-empty_list (x ∷ xs) e = absurd (omega arith)
 
 -- ---- the period
 
@@ -129,7 +121,7 @@ module _ (r : Rule) (fit : Good r) (k : ℕ) (inside : in_range r k ≡ true) (y
   days_length_is = sym (length-map ds (λ i. new_year y + i)) ∙ ap (λ (l : List ℕ). length l) days_are
 
   day_is : (j : ℕ) → j < length ds → get_or own j 0 ≡ new_year y + get_or ds j 0
-  day_is j h = ap (λ (l : List ℕ). get_or l j 0) (sym days_are) ∙ get_d_map_below (λ i. new_year y + i) ds j h
+  day_is j h = ap (λ (l : List ℕ). get_or l j 0) (sym days_are) ∙ get_or-map (λ i. new_year y + i) ds j 0 0 h
 
   -- there are at most 373, each below 373
   abbrev passes : ℕ → Bool
@@ -297,7 +289,7 @@ module _ (r : Rule) (fit : Good r) (k : ℕ) (inside : in_range r k ≡ true) (y
   tabled_so =
       by_days (λ p l. kept r k ≡ tabled (second_kept (is_positioned r) p.frame (days_over r k y days) (sets_in r).lists l) 0 p.kept)
       (is_tabled _ n (kept r k) (kept_length_is (is_positioned r) refl) (kept_is (is_positioned r) refl))
-      (λ e. empty_list (kept r k) (kept_nothing e))
+      (λ e. nil_from_length (kept r k) (kept_nothing e))
 
   length_so : length (kept r k) ≡ (period_in r k y).kept
   unfolding no_period

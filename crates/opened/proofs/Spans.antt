@@ -7,6 +7,7 @@ use mathlib.Core.Bool.{Bool, true, false, ◌&&◌}
 use native.Mathlib.Nat.{mod-lt}
 use native.Mathlib.Omega.{arith}
 use lib.Dec.{leb}
+use Rattle.std.proofs.lemmas.Bool.{and_parts}
 use borrow.Author.Tests.{lt-ltb, le-leb, lt-leb, leb-true, leb-false, ltb-true}
 use Rattle.calendar.specs.Calendar.{leap, days_of, year_length, new_year, year_of, month_length, days_before_month, first_of, date_of}
 use Rattle.calendar.specs.Claims.{InYear}
@@ -37,10 +38,6 @@ use Rattle.opened.proofs.Yielded.{Good}
 
 -- ---- a year and the days in it
 
-both : (a b : Bool) → (a && b) ≡ true → (a ≡ true) × (b ≡ true)
-both true b e = (refl, e)
-both false b e = absurd (let z : ◌≡◌ {A = ℕ} 0 1 = cc in omega arith)
-
 -- the year 1970 begins with the first instant
 epoch_year : new_year 1970 ≡ 719162
 unfolding new_year
@@ -66,7 +63,7 @@ info_year r y h = rw (le-leb y 9999 h)
 -- a year's information is of that year, or of none
 within : (y : Year) (d : ℕ) → is_in_year y d ≡ true → (y.first ≤ d) × (d < y.first + days_of y.long)
 unfolding is_in_year
-within y d e = let b = both (leb y.first d) _ e in (leb-true _ _ b.0, ltb-true _ _ b.1)
+within y d e = let b = and_parts (leb y.first d) _ e in (leb-true _ _ b.0, ltb-true _ _ b.1)
 
 no_year_lem : (r : Rule) (y : ℕ) → 9999 < y → (rule_info r y).year ≡ no_year
 unfolding rule_info info_of year_info

@@ -7,6 +7,7 @@ use mathlib.Core.Bool.{Bool, true, false, not, ◌&&◌}
 use mathlib.Core.List.{List}
 use native.Mathlib.Omega.{arith}
 use lib.ListN.{length}
+use Rattle.std.proofs.lemmas.Bool.{and_parts}
 use borrow.Author.Tests.{ltb-false}
 use Rattle.rule.specs.declared.rrule.Refusal.{Refusal}
 use Rattle.rule.specs.declared.rrule.Rule.{Rule}
@@ -46,20 +47,14 @@ given_sized w = record {
   bysetpos = length_set_of 732 (entries positions w.lists.bysetpos);
 }
 
-answered : (v : Verdict) (q r : Rule) → (answers v q).verdict ≡ Ok tt → (answers v q).rule ≡ r → q ≡ r
+answered : (v : Verdict) (q r : Rule) → answers v q ≡ Ok r → q ≡ r
 unfolding answers
-answered (Err n) q r a e = absurd (let z : ◌≡◌ {A = ℕ} 0 1 = cc in omega arith)
-answered (Ok tt) q r a e = e
+answered (Err n) q r e = absurd (let z : ◌≡◌ {A = ℕ} 0 1 = cc in omega arith)
+answered (Ok tt) q r e = cc
 
 yields_sized : (w : Raw) (r : Rule) → Yields w r → Sized r
 unfolding checked
-yields_sized w r y =
-    subst (λ (q : Rule). Sized q) (answered (verdict w) (fill (given w)) r y.accepted y.record_is) (fill_sized (given w) (given_sized w))
-
--- both tests pass
-both : (a b : Bool) → (a && b) ≡ true → (a ≡ true) × (b ≡ true)
-both true b e = (refl, e)
-both false b e = absurd (let z : ◌≡◌ {A = ℕ} 0 1 = cc in omega arith)
+yields_sized w r y = subst (λ (q : Rule). Sized q) (answered (verdict w) (fill (given w)) r y) (fill_sized (given w) (given_sized w))
 
 pub record Good (r : Rule) : Type 0 where
   pub sized : Sized r
@@ -71,7 +66,7 @@ pub good : (r : Rule) → yielded r ≡ true → Good r
 good r h =
     let w = (good_records r).0 h in
     let z : Sized r = yields_sized w.0 r w.1 in
-    let kept = none_broken r (both (breaks_no_row r) (not (is_unfilled r)) (records_computed r z ∙ h)).0 in
+    let kept = none_broken r (and_parts (breaks_no_row r) (not (is_unfilled r)) (records_computed r z ∙ h)).0 in
     record {
       sized = z;
       wkst = ltb-false 6 r.wkst (kept Refusal.WeekStartAbove);
