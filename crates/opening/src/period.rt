@@ -84,12 +84,7 @@ fn frame_of(shape: Shape, tick: u64, first: u64, days: usize, clock: &[bool; 144
 }
 
 // How many of a frame's candidates are kept; with positions, their numbers are written.
-fn kept_of(
-    positioned: bool,
-    bysetpos: &[bool; 732],
-    frame: Frame,
-    places: &mut [u32; 732],
-) -> u32
+fn kept_of(positioned: bool, bysetpos: &[bool; 732], frame: Frame, places: &mut [u32; 732]) -> u32
     requires { (frame.days ≤ 373) × (frame.times ≤ 86400) }
     ensures count { result ≡ kept_count positioned bysetpos.now frame.days frame.times }
     ensures chosen { places.new ≡ chosen_over positioned bysetpos.now frame.days frame.times places.old }

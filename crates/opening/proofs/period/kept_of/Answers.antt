@@ -1,11 +1,8 @@
 -- `opening::period::kept_of` meets its contract.
 -- Assumes nothing.
 use Prim.Native.Nat.{◌*◌, ◌≤◌}
-use mathlib.Core.Path.{◌≡◌}
-use mathlib.Core.Bool.{true, false}
 use native.Mathlib.Nat.{mul-le-mul}
 use native.Mathlib.Omega.{arith}
-use borrow.Author.Tests.{not-true, not-false}
 use Rattle.positions.proofs.PlaceLaws.{places_fit}
 use Rattle.opening.specs.Opening.{kept_count, chosen_over}
 use Rattle.opening.proofs.period.kept_of.Goals as goal
