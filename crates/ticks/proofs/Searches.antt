@@ -1,5 +1,6 @@
 -- The search for a tick that passes.
 -- Assumes nothing.
+use Rattle.std.specs.Prelude.{Some, None}
 use Prim.Native.Nat.{ℕ, zero, suc, ◌+◌, ◌-◌, ◌≤◌, ◌<◌}
 use mathlib.Core.Path.{◌≡◌, refl, sym, ap, ◌∙◌}
 use mathlib.Core.Bool.{Bool, true, false}
@@ -10,11 +11,10 @@ use Rattle.machine.specs.Given.{Move, Move.To, Move.NoTick, Move.Range}
 use Rattle.rule.specs.declared.rrule.Frequency.{Frequency}
 use Rattle.rule.specs.Moves.{ticks, first_from}
 use Rattle.ticks.specs.declared.counter_date.Hit.{Hit}
-use Rattle.ticks.specs.declared.counter_date.Found.{Found}
 use Rattle.ticks.specs.Ticks.{tick_is_in, tick_on, first_tick, found_by, next_tick}
 use Rattle.ticks.proofs.Days.{tick_on_on}
 
--- ---- the search of the periods from number n + 1 up to number e
+-- ---- the search of the periods from number n up to number e
 module _ (freq : Frequency) (step tick : ℕ) (clock : List Bool) where
   abbrev pub passes_at : ℕ → Bool
   passes_at i = tick_is_in freq clock (tick_on (ticks freq) step tick i)
@@ -22,20 +22,20 @@ module _ (freq : Frequency) (step tick : ℕ) (clock : List Bool) where
   abbrev first_of : ℕ → ℕ → Move
   first_of n i = first_tick freq step tick clock n i
 
-  pub begun : (e : ℕ) → first_of e 1 ≡ first_of (e - 0) 1
-  begun e = let s : e ≡ e - 0 = omega arith in ap (λ (x : ℕ). first_of x 1) s
+  pub begun : (e : ℕ) → first_of e 1 ≡ first_of (e + 1 - 1) 1
+  begun e = let s : e ≡ e + 1 - 1 = omega arith in ap (λ (x : ℕ). first_of x 1) s
 
-  pub hit : (e n : ℕ) → n < e → passes_at (n + 1) ≡ true → first_of (e - n) (n + 1) ≡ To (n + 1)
+  pub hit : (e n : ℕ) → n < e + 1 → passes_at n ≡ true → first_of (e + 1 - n) n ≡ To n
   unfolding first_tick first_from
-  hit e n h p = let s : e - n ≡ suc (e - (n + 1)) = omega arith in rw s (rw (p, first_from))
+  hit e n h p = let s : e + 1 - n ≡ suc (e + 1 - (n + 1)) = omega arith in rw s (rw (p, first_from))
 
-  pub miss : (e n : ℕ) → n < e → passes_at (n + 1) ≡ false → first_of (e - n) (n + 1) ≡ first_of (e - (n + 1)) (n + 1 + 1)
+  pub miss : (e n : ℕ) → n < e + 1 → passes_at n ≡ false → first_of (e + 1 - n) n ≡ first_of (e + 1 - (n + 1)) (n + 1)
   unfolding first_tick first_from
-  miss e n h p = let s : e - n ≡ suc (e - (n + 1)) = omega arith in rw s (rw (p, first_from))
+  miss e n h p = let s : e + 1 - n ≡ suc (e + 1 - (n + 1)) = omega arith in rw s (rw (p, first_from))
 
-  pub done : (e n : ℕ) → e ≤ n → first_of (e - n) (n + 1) ≡ NoTick
+  pub done : (e n : ℕ) → e + 1 ≤ n → first_of (e + 1 - n) n ≡ NoTick
   unfolding first_tick first_from
-  done e n h = let s : e - n ≡ 0 = omega arith in rw s
+  done e n h = let s : e + 1 - n ≡ 0 = omega arith in rw s
 
 -- ---- what a search can find
 module _ (p : ℕ → Bool) (P : Move → Type 0) where
@@ -54,7 +54,7 @@ module _ (freq : Frequency) (step tick : ℕ) (clock : List Bool) where
   unfolding next_tick
   next_from h = rw (lt-ltb tick (ticks freq) h)
 
-  pub next_none : ticks freq ≤ tick → Found.Never ≡ next_tick freq step tick clock
+  pub next_none : ticks freq ≤ tick → None ≡ next_tick freq step tick clock
   unfolding next_tick
   next_none h = rw (le-ltb tick (ticks freq) h)
 
@@ -65,20 +65,20 @@ module _ (freq : Frequency) (step tick : ℕ) (clock : List Bool) where
     pub there : h.tick ≡ tick_on (ticks freq) step tick h.periods
 
   module _ (inside : tick < ticks freq) where
-    pub hit_is : (h : Hit) → Found.At h ≡ next_tick freq step tick clock → Hits h
+    pub hit_is : (h : Hit) → Some h ≡ next_tick freq step tick clock → Hits h
     unfolding first_tick
     hit_is h e =
         finds (passes_at freq step tick clock)
-        (λ v. Found.At h ≡ found_by (ticks freq) step tick v → v ≡ first_tick freq step tick clock (ticks freq) 1 → Hits h) (ticks freq) 1
+        (λ v. Some h ≡ found_by (ticks freq) step tick v → v ≡ first_tick freq step tick clock (ticks freq) 1 → Hits h) (ticks freq) 1
         (λ j l f g. let x : h ≡ record { periods = j; tick = tick_on (ticks freq) step tick j } = cc in
         rw x (record { first = sym g; few = omega arith; there = refl }))
         (λ f. absurd (let z : ◌≡◌ {A = ℕ} 0 1 = cc in omega arith))
         (e ∙ sym (next_from inside)) refl
 
-    pub never_is : Found.Never ≡ next_tick freq step tick clock → first_tick freq step tick clock (ticks freq) 1 ≡ NoTick
+    pub never_is : None ≡ next_tick freq step tick clock → first_tick freq step tick clock (ticks freq) 1 ≡ NoTick
     unfolding first_tick
     never_is e =
-        finds (passes_at freq step tick clock) (λ v. Found.Never ≡ found_by (ticks freq) step tick v → v ≡ NoTick) (ticks freq) 1
+        finds (passes_at freq step tick clock) (λ v. None ≡ found_by (ticks freq) step tick v → v ≡ NoTick) (ticks freq) 1
         (λ j h f. absurd (let z : ◌≡◌ {A = ℕ} 0 1 = cc in omega arith))
         (λ f. refl)
         (e ∙ sym (next_from inside))

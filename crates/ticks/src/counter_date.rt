@@ -12,22 +12,12 @@ pub struct Hit {
     pub tick: u64,
 }
 
-// The first tick that passes; or none does, however far the calendar runs.
-#[derive(Clone, Copy)]
-pub enum Found {
-    At(Hit),
-    Never,
-}
-
 // How many periods a day has.
-fn ticks_of(freq: Frequency) -> u64
+pub fn ticks_of(freq: Frequency) -> u64
     ensures { result ≡ ticks freq }
 {
     match freq {
-        Frequency::Yearly => 1,
-        Frequency::Monthly => 1,
-        Frequency::Weekly => 1,
-        Frequency::Daily => 1,
+        Frequency::Yearly | Frequency::Monthly | Frequency::Weekly | Frequency::Daily => 1,
         Frequency::Hourly => 24,
         Frequency::Minutely => 1440,
         Frequency::Secondly => 86400,
@@ -64,52 +54,35 @@ fn tick_passes(freq: Frequency, tick: u64, clock: &[bool; 144]) -> bool
     ensures { result ≡ tick_is_in freq clock.now tick }
 {
     match freq {
-        Frequency::Yearly => true,
-        Frequency::Monthly => true,
-        Frequency::Weekly => true,
-        Frequency::Daily => true,
+        Frequency::Yearly | Frequency::Monthly | Frequency::Weekly | Frequency::Daily => true,
         Frequency::Hourly => clock[tick as usize],
-        Frequency::Minutely => {
-            if !clock[(tick / 60) as usize] {
-                return false;
-            }
-            clock[24 + (tick % 60) as usize]
-        }
+        Frequency::Minutely => clock[(tick / 60) as usize] && clock[24 + (tick % 60) as usize],
         Frequency::Secondly => {
             let second = tick as u32;
             let minutes = second / 60;
-            if !clock[24 + (minutes % 60) as usize] {
-                return false;
-            }
-            if !clock[(minutes / 60) as usize] {
-                return false;
-            }
-            clock[84 + (second % 60) as usize]
+            clock[24 + (minutes % 60) as usize]
+                && clock[(minutes / 60) as usize]
+                && clock[84 + (second % 60) as usize]
         }
     }
 }
 
 // The first later tick that passes, a step of INTERVAL from tick to tick; the clock has the flags of the hours, minutes and seconds that pass,
 // in a row. The ticks repeat with the day, so a search of one cycle is enough. What is no tick of the day has none.
-pub fn find_tick(freq: Frequency, interval: u64, tick: u64, clock: &[bool; 144]) -> Found
+pub fn find_tick(freq: Frequency, interval: u64, tick: u64, clock: &[bool; 144]) -> Option<Hit>
     ensures { result ≡ next_tick freq interval tick clock.now }
 {
     let perday = ticks_of(freq);
     if perday <= tick {
-        return Found::Never;
+        return None;
     }
     let hop = hop_of(interval, perday);
     let mut at = tick;
-    let mut n: u64 = 0;
-    while n < perday {
-        n += 1;
+    for periods in 1..perday + 1 {
         at = tick_after(at, perday, hop);
         if tick_passes(freq, at, clock) {
-            return Found::At(Hit {
-                periods: n,
-                tick: at,
-            });
+            return Some(Hit { periods, tick: at });
         }
     }
-    Found::Never
+    None
 }
