@@ -1,29 +1,25 @@
 -- What keeps the counter's numbers small: a start out of range reaches none, and a sum that leaves the range may be cut short.
 -- Assumes nothing.
+use Rattle.std.specs.Prelude.{Ok, Err}
 use Prim.Native.Nat.{ℕ, ◌+◌, ◌*◌, ◌/◌, ◌%◌, min, ◌≤◌, ◌<◌}
-use mathlib.Core.Path.{◌≡◌}
+use mathlib.Core.Path.{◌≡◌, refl}
+use mathlib.Core.Bool.{Bool, true, false}
+use lib.Dec.{ltb}
 use mathlib.Core.Logic.{⊎_elim}
 use native.Mathlib.Omega.{arith}
-use borrow.Author.Tests.{lt-ltb, le-ltb, lt-leb, le-leb}
+use borrow.Author.Tests.{ltb-true, ltb-false, lt-ltb, le-ltb, lt-leb, le-leb}
 use Rattle.calendar.specs.Calendar.{year_of, date_of}
 use Rattle.calendar.proofs.Years.{years_rise, year_of_is}
 use Rattle.calendar.proofs.Dates.{date_is}
+use Rattle.machine.specs.declared.Cause.{Cause}
 use Rattle.rule.specs.declared.rrule.Frequency.{Frequency}
 use Rattle.rule.specs.declared.rrule.Rule.{Rule}
 use Rattle.rule.specs.Instants.{second, last_instant, range_end, day_of}
 use Rattle.rule.specs.Moves.{ticks}
 use Rattle.rule.proofs.Order.{below_or}
 use Rattle.periods.specs.declared.counter_date.Counter.{Counter}
-use Rattle.periods.specs.declared.counter_date.Reached.{Reached}
-use Rattle.periods.specs.Counters.{months_before, number_of, step_of, cut, counter_at, reached_at, limit_of}
+use Rattle.periods.specs.Counters.{months_before, number_of, step_of, cut, counter_at, below, reached_at, limit_of}
 use Rattle.periods.proofs.Counted.{year_limit, in_range_is}
-
--- where a number is not cut, its counter has no tick
-pub uncut : (f : Frequency) (k n : ℕ) → ticks f ≡ 1 → record { k = k; number = n; tick = 0 } ≡ cut f k n
-uncut f k n e =
-    let a : n / 1 ≡ n = omega arith in
-    let b : n % 1 ≡ 0 = omega arith in
-    rw (e, a, b)
 
 -- the year and the month of a day in range
 year_below : (d : ℕ) → d < range_end → year_of d < 10000
@@ -48,16 +44,6 @@ number_below Frequency.Daily wkst s h = omega arith
 number_below Frequency.Hourly wkst s h = omega arith
 number_below Frequency.Minutely wkst s h = omega arith
 number_below Frequency.Secondly wkst s h = omega arith
-
-pub step_at_most : (f : Frequency) (i : ℕ) → i < 65536 → step_of f i ≤ 7 * 65535
-unfolding step_of
-step_at_most Frequency.Yearly i h = omega arith
-step_at_most Frequency.Monthly i h = omega arith
-step_at_most Frequency.Weekly i h = omega arith
-step_at_most Frequency.Daily i h = omega arith
-step_at_most Frequency.Hourly i h = omega arith
-step_at_most Frequency.Minutely i h = omega arith
-step_at_most Frequency.Secondly i h = omega arith
 
 -- A sum cut short at the range's seconds: it stays out of range, and a sum in range was not cut.
 pub out_of_range : (f : Frequency) (a m : ℕ) → limit_of f ≤ (a + min m 315537897600) / ticks f → limit_of f ≤ (a + m) / ticks f
@@ -91,18 +77,26 @@ module _ (r : Rule) (k : ℕ) where
   abbrev steps : ℕ
   steps = k * step_of r.freq r.interval
 
-  pub reaches_range : 253402300799 < r.start → Reached.Range ≡ reached_at r k
+  pub reaches_range : 253402300799 < r.start → Err Cause.Range ≡ reached_at r k
   unfolding reached_at
   reaches_range h = rw (lt-leb r.start last_instant h)
 
-  pub reaches_counter : r.start ≤ 253402300799 → (capped r k).number < limit_of r.freq → Reached.To (capped r k) ≡ reached_at r k
+  reaches_counter : r.start ≤ 253402300799 → (capped r k).number < limit_of r.freq → Ok (capped r k) ≡ reached_at r k
   unfolding reached_at counter_at
   reaches_counter h l =
       let e : min steps 315537897600 ≡ steps = not_cut_short r.freq start_number steps l in
       rw (le-leb r.start last_instant h, in_range_is r k, lt-ltb (counter_at r k).number (limit_of r.freq) (rw e at l)) (rw e)
 
-  pub reaches_no_counter : r.start ≤ 253402300799 → limit_of r.freq ≤ (capped r k).number → Reached.Range ≡ reached_at r k
+  reaches_no_counter : r.start ≤ 253402300799 → limit_of r.freq ≤ (capped r k).number → Err Cause.Range ≡ reached_at r k
   unfolding reached_at counter_at
   reaches_no_counter h l =
       let o = le-ltb (counter_at r k).number (limit_of r.freq) (out_of_range r.freq start_number steps l) in
       rw (le-leb r.start last_instant h, in_range_is r k, o)
+
+  pub reaches : r.start ≤ 253402300799 → below (limit_of r.freq) (capped r k) ≡ reached_at r k
+  unfolding below
+  reaches h = go (ltb (capped r k).number (limit_of r.freq)) refl
+    where
+      go : (b : Bool) → ltb (capped r k).number (limit_of r.freq) ≡ b → below (limit_of r.freq) (capped r k) ≡ reached_at r k
+      go true e = rw e (reaches_counter h (ltb-true _ _ e))
+      go false e = rw e (reaches_no_counter h (ltb-false _ _ e))

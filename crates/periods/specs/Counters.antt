@@ -1,8 +1,9 @@
 -- Where period k stands, in whole numbers.
 -- Assumes nothing.
-use Rattle.std.specs.Prelude.{ℕ, ◌+◌, ◌-◌, ◌*◌, ◌/◌, ◌%◌, ◌&&◌, leb, if◌then◌else◌}
+use Rattle.std.specs.Prelude.{ℕ, ◌+◌, ◌-◌, ◌*◌, ◌/◌, ◌%◌, ◌&&◌, leb, ltb, if◌then◌else◌, Result, Ok, Err}
 use Rattle.calendar.specs.declared.utils.Date.{Date}
 use Rattle.calendar.specs.Calendar.{year_of, date_of}
+use Rattle.machine.specs.declared.Cause.{Cause}
 use Rattle.rule.specs.declared.rrule.Frequency.{Frequency}
 use Rattle.rule.specs.declared.rrule.Rule.{Rule}
 use Rattle.rule.specs.Instants.{second, last_instant, range_end, day_of}
@@ -11,7 +12,6 @@ use Rattle.rule.specs.Filling.{blank}
 use Rattle.rule.specs.Periods.{in_range}
 use Rattle.rule.specs.Moves.{ticks}
 use Rattle.periods.specs.declared.counter_date.Counter.{Counter}
-use Rattle.periods.specs.declared.counter_date.Reached.{Reached}
 
 -- how many months there are from the year 0 up to that of the day d
 abbrev pub months_before : ℕ → ℕ
@@ -71,9 +71,9 @@ rule_from freq interval wkst start = record {
 
 -- The counter of period k, where the start is in range and the period begins in it. Both are asked: of a start in the first days of the
 -- year 10000 week period 0 may begin in 9999.
-unfoldable pub reached_at : Rule → ℕ → Reached
+unfoldable pub reached_at : Rule → ℕ → Result Counter Cause
 unfolding counter_at in_range
-reached_at r k = if leb r.start last_instant && in_range r k then Reached.To (counter_at r k) else Reached.Range
+reached_at r k = if leb r.start last_instant && in_range r k then Ok (counter_at r k) else Err Cause.Range
 
 -- the first number whose period begins after 9999
 unfoldable pub limit_of : Frequency → ℕ
@@ -84,3 +84,7 @@ limit_of Frequency.Daily = range_end
 limit_of Frequency.Hourly = range_end
 limit_of Frequency.Minutely = range_end
 limit_of Frequency.Secondly = range_end
+
+-- a counter, where its number is below the first whose period begins after 9999
+unfoldable pub below : ℕ → Counter → Result Counter Cause
+below limit c = if ltb c.number limit then Ok c else Err Cause.Range

@@ -1,11 +1,13 @@
 // The counter of a period, in and out by value.
 ghost use Rattle.std.specs.Prelude.{◌≡◌, ◌+◌, ◌*◌, ◌<◌, ◌≤◌, min};
 ghost use Rattle.rule.specs.Days.{week_of};
-ghost use Rattle.periods.specs.Counters.{months_before, number_of, step_of, cut, limit_of, rule_from, reached_at};
+ghost use Rattle.periods.specs.Counters.{months_before, number_of, step_of, cut, limit_of, below, rule_from, reached_at};
 
-use calendar::utils::year_of_day;
+use calendar::utils::{EPOCH, LAST_INSTANT, RANGE_END, year_of_day};
 use dates::utils::date_from_ordinal;
+use machine::Cause;
 use rule::rrule::Frequency;
+use ticks::counter_date::ticks_of;
 
 // Period k: its number, as its frequency counts, and below DAILY its tick, which is its place in its day.
 #[derive(Clone, Copy)]
@@ -15,39 +17,36 @@ pub struct Counter {
     pub tick: u64,
 }
 
-// A counter in range; or none, as no tick passes; or none, as the period begins after 9999.
-#[derive(Clone, Copy)]
-pub enum Reached {
-    To(Counter),
-    NoTick,
-    Range,
-}
-
-// The last instant of 9999.
-const LAST_INSTANT: u64 = 253402300799;
-
-// The seconds from 0001-01-01 to 1970-01-01.
-const EPOCH: u64 = 62135596800;
-
 // The seconds of the years 1 to 9999: a period this many units after another begins after 9999.
 const RANGE: u64 = 315537897600;
 
-// The day after 9999.
-const RANGE_END: u64 = 3652059;
-
 // The counter of period k where the start is in range and the period begins in it, else Range.
-pub fn counter_at(freq: Frequency, interval: u16, wkst: u8, start: u64, k: u64) -> Reached
+pub fn counter_at(
+    freq: Frequency,
+    interval: u16,
+    wkst: u8,
+    start: u64,
+    k: u64,
+) -> Result<Counter, Cause>
     ensures { result ≡ reached_at (rule_from freq interval wkst start) k }
 {
     if LAST_INSTANT < start {
-        return Reached::Range;
+        return Err(Cause::Range);
     }
     let first = number_of(freq, wkst, start + EPOCH);
     let counter = cut_at(freq, k, first + added(k, step_of(freq, interval)));
-    if counter.number < limit_of(freq) {
-        Reached::To(counter)
+    in_range(counter, limit_of(freq))
+}
+
+// The counter where its number is below the first whose period begins after 9999, else Range.
+#[tactic(auto, unfolding(crate::specs::Counters::below))]
+pub fn in_range(counter: Counter, limit: u64) -> Result<Counter, Cause>
+    ensures { result ≡ below limit counter }
+{
+    if counter.number < limit {
+        Ok(counter)
     } else {
-        Reached::Range
+        Err(Cause::Range)
     }
 }
 
@@ -84,74 +83,44 @@ fn week_of(wkst: u8, day: u64) -> u64
 }
 
 // What INTERVAL adds to the number.
-fn step_of(freq: Frequency, interval: u16) -> u64
+#[tactic(auto, unfolding(crate::specs::Counters::step_of))]
+pub fn step_of(freq: Frequency, interval: u16) -> u64
     ensures { result ≡ step_of freq interval }
 {
     let units = interval as u64;
     match freq {
-        Frequency::Yearly => units,
-        Frequency::Monthly => units,
         Frequency::Weekly => 7 * units,
-        Frequency::Daily => units,
-        Frequency::Hourly => units,
-        Frequency::Minutely => units,
-        Frequency::Secondly => units,
+        _ => units,
     }
 }
 
 // What k steps add to the number; where that is as much as the range has seconds, so much.
 fn added(k: u64, step: u64) -> u64
-    requires { step ≤ 7 * 65535 }
     ensures { result ≡ min (k * step) 315537897600 }
 {
-    if step == 0 {
-        return 0;
-    }
-    if RANGE <= k {
-        return RANGE;
-    }
-    let sum = k * step;
-    if RANGE < sum { RANGE } else { sum }
+    k.saturating_mul(step).min(RANGE)
 }
 
 // The counter of period k with this number, cut into day and tick below DAILY.
 fn cut_at(freq: Frequency, k: u64, number: u64) -> Counter
     ensures { result ≡ cut freq k number }
 {
-    match freq {
-        Frequency::Yearly => Counter { k, number, tick: 0 },
-        Frequency::Monthly => Counter { k, number, tick: 0 },
-        Frequency::Weekly => Counter { k, number, tick: 0 },
-        Frequency::Daily => Counter { k, number, tick: 0 },
-        Frequency::Hourly => Counter {
-            k,
-            number: number / 24,
-            tick: number % 24,
-        },
-        Frequency::Minutely => Counter {
-            k,
-            number: number / 1440,
-            tick: number % 1440,
-        },
-        Frequency::Secondly => Counter {
-            k,
-            number: number / 86400,
-            tick: number % 86400,
-        },
+    let perday = ticks_of(freq);
+    Counter {
+        k,
+        number: number / perday,
+        tick: number % perday,
     }
 }
 
 // The first number whose period begins after 9999.
-fn limit_of(freq: Frequency) -> u64
+#[tactic(auto, unfolding(crate::specs::Counters::limit_of))]
+pub fn limit_of(freq: Frequency) -> u64
     ensures { result ≡ limit_of freq }
 {
     match freq {
         Frequency::Yearly => 10000,
         Frequency::Monthly => 120000,
-        Frequency::Weekly => RANGE_END,
-        Frequency::Daily => RANGE_END,
-        Frequency::Hourly => RANGE_END,
-        Frequency::Minutely => RANGE_END,
-        Frequency::Secondly => RANGE_END,
+        _ => RANGE_END,
     }
 }

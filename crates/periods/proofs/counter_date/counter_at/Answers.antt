@@ -5,7 +5,7 @@ use Prim.Native.Nat.{◌+◌}
 use native.Mathlib.Omega.{arith}
 use Rattle.rule.specs.declared.rrule.Rule.{Rule}
 use Rattle.periods.specs.Counters.{rule_from}
-use Rattle.periods.proofs.Capped.{number_below, step_at_most, capped, reaches_range, reaches_counter, reaches_no_counter}
+use Rattle.periods.proofs.Capped.{number_below, capped, reaches_range, reaches}
 use Rattle.periods.proofs.counter_date.counter_at.Goals as goal
 use Rattle.periods.proofs.counter_date.counter_at.Goals.{After-limit_of}
 
@@ -14,11 +14,6 @@ unfolding rule_from
 returns-then-start-gt-LAST_INSTANT c =
     let a = c.args in
     reaches_range (rule_from a.freq a.interval a.wkst a.start) a.k (omega arith)
-
-pub added-requires : goal.added-requires
-added-requires c =
-    let a = c.args in
-    rw c.step_of.ensures (step_at_most a.freq a.interval (omega arith))
 
 pub overflow_add-first : goal.overflow_add-first
 overflow_add-first c =
@@ -36,16 +31,8 @@ made c =
     let added_is = rw c.step_of.ensures at c.added.ensures in
     c.cut_at-counter.ensures ∙ rw (added_is, c.number_of-first.ensures)
 
-pub returns-then-counter-limit_of : goal.returns-then-counter-limit_of
+pub returns : goal.returns
 unfolding rule_from
-returns-then-counter-limit_of c =
-    let e = made (goal.at.returns-then-counter-limit_of c).After-limit_of in
-    let l = rw (c.limit_of.ensures, e) at c.if-counter-limit_of.true in
-    rw e (reaches_counter (asked (goal.at.returns-then-counter-limit_of c).After-limit_of) c.args.k (omega arith) l)
-
-pub returns-else-counter-limit_of : goal.returns-else-counter-limit_of
-unfolding rule_from
-returns-else-counter-limit_of c =
-    let e = made (goal.at.returns-else-counter-limit_of c).After-limit_of in
-    let l = rw (c.limit_of.ensures, e) at c.if-counter-limit_of.false in
-    reaches_no_counter (asked (goal.at.returns-else-counter-limit_of c).After-limit_of) c.args.k (omega arith) l
+returns c =
+    let here = (goal.at.returns c).After-limit_of in
+    c.in_range.ensures ∙ rw (c.limit_of.ensures, made here) (reaches (asked here) c.args.k (omega arith))
