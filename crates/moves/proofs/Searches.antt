@@ -1,18 +1,19 @@
 -- Where the search for a tick that passes leads a counter.
 -- Assumes nothing.
+use Rattle.std.specs.Prelude.{Err}
 use Prim.Native.Nat.{ℕ, ◌+◌, ◌<◌}
 use mathlib.Core.Path.{◌≡◌, refl, sym, ap, ◌∙◌}
 use mathlib.Core.Bool.{Bool}
 use mathlib.Core.List.{List}
+use Rattle.machine.specs.declared.Cause.{Cause}
 use Rattle.machine.specs.Given.{Move, Move.To, Move.NoTick, Move.Range}
 use Rattle.rule.specs.declared.rrule.Frequency.{Frequency}
 use Rattle.rule.specs.Moves.{ticks}
 use Rattle.periods.specs.declared.counter_date.Counter.{Counter}
-use Rattle.periods.specs.declared.counter_date.Reached.{Reached}
-use Rattle.periods.specs.Counters.{limit_of}
+use Rattle.periods.specs.Counters.{limit_of, below}
 use Rattle.ticks.specs.Ticks.{first_tick}
 use Rattle.ticks.proofs.Searches.{later, search_later}
-use Rattle.moves.specs.Increments.{ahead, below, arrive}
+use Rattle.moves.specs.Increments.{ahead, arrive}
 use Rattle.moves.proofs.Ahead.{tick_ahead, ahead_ahead}
 
 -- where the search ends, in range or not
@@ -21,7 +22,7 @@ pub arrived : (freq : Frequency) (limit step n : ℕ) (c d : Counter) → limit_
 unfolding arrive
 arrived freq limit step n c d l e = rw (e, l)
 
-pub not_arrived : (freq : Frequency) (step : ℕ) (c : Counter) → Reached.NoTick ≡ arrive freq step c NoTick
+pub not_arrived : (freq : Frequency) (step : ℕ) (c : Counter) → Err Cause.NoTick ≡ arrive freq step c NoTick
 unfolding arrive
 not_arrived freq step c = refl
 

@@ -1,23 +1,24 @@
 -- A step of the code, from where it sets off to where it lands.
 -- Assumes nothing.
-use Rattle.std.specs.Prelude.{if◌then◌else◌}
+use Rattle.std.specs.Prelude.{Result, Err}
 use Prim.Native.Nat.{ℕ, ◌+◌, ◌-◌, ◌*◌, ◌≤◌, ◌<◌}
 use mathlib.Core.Path.{◌≡◌, refl, sym, ap, ◌∙◌}
 use mathlib.Core.Bool.{Bool, true, false, ◌&&◌}
+use mathlib.Core.Logic.{◌⊎◌, inl, inr}
 use mathlib.Core.List.{List}
 use native.Mathlib.Nat.{mul-le-mul, zero-div, div-le_self, div-mul-le_self}
 use native.Mathlib.Omega.{arith}
 use borrow.Author.Tests.{ltb-true, leb-true, lt-ltb, le-leb}
+use Rattle.machine.specs.declared.Cause.{Cause}
 use Rattle.machine.specs.Given.{Move.To}
 use Rattle.rule.specs.declared.rrule.Frequency.{Frequency}
 use Rattle.rule.specs.Filling.{is_below}
 use Rattle.rule.specs.Moves.{ticks}
 use Rattle.periods.specs.declared.counter_date.Counter.{Counter}
-use Rattle.periods.specs.declared.counter_date.Reached.{Reached}
-use Rattle.periods.specs.Counters.{step_of, limit_of}
+use Rattle.periods.specs.Counters.{step_of, limit_of, below}
 use Rattle.ticks.specs.Ticks.{first_tick}
 use Rattle.ticks.proofs.Days.{ticks_fit}
-use Rattle.moves.specs.Increments.{ahead, skipped, landing, below, arrive, fits, stands, incremented}
+use Rattle.moves.specs.Increments.{ahead, skipped, landing, arrive, fits, stands, incremented}
 use Rattle.moves.proofs.Ahead.{day_is, ahead_is, ahead_tick, ahead_none, ahead_k}
 use Rattle.moves.proofs.Searches.{arrived, arrives_later}
 
@@ -31,6 +32,36 @@ limit_fits Frequency.Daily = omega arith
 limit_fits Frequency.Hourly = omega arith
 limit_fits Frequency.Minutely = omega arith
 limit_fits Frequency.Secondly = omega arith
+
+step_few : (freq : Frequency) (interval : ℕ) → step_of freq interval ≤ 7 * interval
+unfolding step_of
+step_few Frequency.Yearly interval = omega arith
+step_few Frequency.Monthly interval = omega arith
+step_few Frequency.Weekly interval = omega arith
+step_few Frequency.Daily interval = omega arith
+step_few Frequency.Hourly interval = omega arith
+step_few Frequency.Minutely interval = omega arith
+step_few Frequency.Secondly interval = omega arith
+
+-- ---- the two kinds of frequency, as a match tells them apart
+abbrev pub Coarse : Frequency → Type 0
+Coarse f = (f ≡ Frequency.Yearly) ⊎ ((f ≡ Frequency.Monthly) ⊎ ((f ≡ Frequency.Weekly) ⊎ (f ≡ Frequency.Daily)))
+
+pub is_coarse : (f : Frequency) → Coarse f → (is_below Frequency.Daily f ≡ false) × (ticks f ≡ 1)
+is_coarse f (inl e) = rw e (refl, refl)
+is_coarse f (inr (inl e)) = rw e (refl, refl)
+is_coarse f (inr (inr (inl e))) = rw e (refl, refl)
+is_coarse f (inr (inr (inr e))) = rw e (refl, refl)
+
+abbrev pub Fine : Frequency → Type 0
+Fine f = (f ≡ Frequency.Hourly) ⊎ ((f ≡ Frequency.Minutely) ⊎ (f ≡ Frequency.Secondly))
+
+pub is_fine : (f : Frequency) (interval : ℕ) → Fine f
+    → (is_below Frequency.Daily f ≡ true) × (limit_of f ≡ 3652059) × (step_of f interval ≡ interval)
+unfolding limit_of step_of
+is_fine f interval (inl e) = rw e (refl, refl, refl)
+is_fine f interval (inr (inl e)) = rw e (refl, refl, refl)
+is_fine f interval (inr (inr e)) = rw e (refl, refl, refl)
 
 -- as far as a cycle of the day leads, nothing wraps
 pub steps_fit : (tick step n : ℕ) → tick ≤ 86400 → step ≤ 65535 → n ≤ 86400 → tick + n * step ≤ 86400 + 86400 * 65535
@@ -118,10 +149,10 @@ module _ (freq : Frequency) (interval : ℕ) (c : Counter) where
   fits_is limit perday l t = rw (l, t)
 
   module _ (passes : Bool) (clock : List Bool) where
-    abbrev moved : Reached
+    abbrev moved : Result Counter Cause
     moved = incremented freq interval c passes clock
 
-    pub stays : stands freq interval c ≡ false → Reached.Range ≡ moved
+    pub stays : stands freq interval c ≡ false → Err Cause.Range ≡ moved
     unfolding incremented
     stays e = rw e
 
@@ -154,42 +185,35 @@ module _ (freq : Frequency) (interval : ℕ) (c : Counter) where
         ∙ ap (arrive freq step c) (sym (lands_first _ f))
         ∙ moves e
 
-    -- from whatever counter
-    pub by_coarse : (by limit : ℕ) → is_below Frequency.Daily freq ≡ false → ticks freq ≡ 1 → step ≡ by → limit_of freq ≡ limit
-        → (if fits limit 1 interval c then below limit (ahead 1 by c 1) else Reached.Range) ≡ moved
-    by_coarse by limit f t s l = go (fits limit 1 interval c) refl
-      where
-        go : (b : Bool) → fits limit 1 interval c ≡ b → (if b then below limit (ahead 1 by c 1) else Reached.Range) ≡ moved
-        go true e = by_period by limit (sym (fits_is limit 1 l t) ∙ e) f t s l
-        go false e = stays (sym (fits_is limit 1 l t) ∙ e)
-
     -- below it
-    pub by_tick : (perday : ℕ) (from : Counter) → stands freq interval c ≡ true
-        → is_below Frequency.Daily freq ≡ true → perday ≡ ticks freq → step ≡ interval
-        → from ≡ ahead perday interval c (skipped perday interval c.tick passes)
-        → arrive freq interval from (first_tick freq interval from.tick clock perday 1) ≡ moved
-    by_tick perday from e f t s g =
+    pub by_tick : (perday by : ℕ) (from : Counter) → stands freq interval c ≡ true
+        → is_below Frequency.Daily freq ≡ true → perday ≡ ticks freq → by ≡ step
+        → from ≡ ahead perday by c (skipped perday by c.tick passes)
+        → arrive freq by from (first_tick freq by from.tick clock perday 1) ≡ moved
+    by_tick perday by from e f t s g =
         let h : c.tick < ticks freq = (does_stand e).tick in
-        rw (g, t)
-        (arrives_later freq interval c (omega arith) clock (skipped (ticks freq) interval c.tick passes) (ticks freq) 1
-        ∙ ap (λ (x : ℕ). arrive freq x c (first_tick freq x c.tick clock (ticks freq) (skipped (ticks freq) x c.tick passes + 1))) (sym s)
+        rw (g, t, s)
+        (arrives_later freq step c (omega arith) clock (skipped (ticks freq) step c.tick passes) (ticks freq) 1
         ∙ ap (arrive freq step c) (sym (lands_tick _ f))
         ∙ moves e)
 
 -- what a counter that stands asks of a step
 module _ (freq : Frequency) (interval : ℕ) (c : Counter) (e : stands freq interval c ≡ true) where
-  pub tick_fits : (perday : ℕ) → perday ≡ ticks freq → (c.k ≤ 1099511627776) × (c.tick < perday) × (perday ≤ 86400) × (1 ≤ interval)
-  tick_fits perday t = let s : Stands freq interval c = does_stand freq interval c e in (omega arith, omega arith, omega (arith, ticks_fit freq), omega arith)
+  pub tick_fits : (perday by : ℕ) → perday ≡ ticks freq → by ≡ interval → (c.k ≤ 1099511627776) × (c.tick < perday) × (perday ≤ 86400) × (1 ≤ by)
+  tick_fits perday by t s =
+      let w : Stands freq interval c = does_stand freq interval c e in
+      (omega arith, omega arith, omega (arith, ticks_fit freq), omega arith)
 
-  pub search_fits : (perday : ℕ) (passes : Bool) (d : Counter) → perday ≡ ticks freq → limit_of freq ≡ 3652059 → interval ≤ 65535
-      → d ≡ ahead perday interval c (skipped perday interval c.tick passes)
-      → ((perday ≡ ticks freq) × (limit_of freq ≡ 3652059) × (interval ≤ 65535))
-      × ((d.k ≤ 1099511714176) × (d.number ≤ 3652059) × (d.tick < perday))
-  search_fits perday passes d t l a g =
+  pub search_fits : (perday by : ℕ) (passes : Bool) (d : Counter) → perday ≡ ticks freq → limit_of freq ≡ 3652059
+      → d ≡ ahead perday by c (skipped perday by c.tick passes)
+      → (d.k ≤ 1099511714176) × (d.number ≤ 3652059) × (d.tick < perday)
+  search_fits perday by passes d t l g =
       let s : Stands freq interval c = does_stand freq interval c e in
-      ((t, l, a), off_fits perday interval c (omega arith) passes d g (omega arith) (omega arith) (omega (arith, ticks_fit freq)))
+      off_fits perday by c (omega arith) passes d g (omega arith) (omega arith) (omega (arith, ticks_fit freq))
 
--- and what one down to DAILY asks of it
-pub period_fits : (limit interval : ℕ) (c : Counter) (by : ℕ) → fits limit 1 interval c ≡ true → limit ≤ 3652059 → by ≤ 458745
-    → (c.k ≤ 1099511627776) × (c.number ≤ 3652059) × (c.tick ≡ 0) × (by ≤ 458745)
-period_fits limit interval c by e l h = let s : Fits limit 1 interval c = does_fit limit 1 interval c e in (omega arith, omega arith, omega arith, h)
+  -- and what one down to DAILY asks of it
+  pub period_fits : (limit by : ℕ) → limit ≡ limit_of freq → ticks freq ≡ 1 → by ≡ step_of freq interval → interval < 65536
+      → (c.k ≤ 1099511627776) × (c.number ≤ 3652059) × (c.tick ≡ 0) × (by ≤ 458745)
+  period_fits limit by l t s h =
+      let w : Stands freq interval c = does_stand freq interval c e in
+      (omega arith, omega (arith, limit_fits freq), omega arith, omega (arith, step_few freq interval))

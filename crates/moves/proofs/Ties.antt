@@ -1,14 +1,16 @@
 -- The move over counters is the rule's own move.
 -- Assumes nothing.
-use Rattle.std.specs.Prelude.{if◌then◌else◌}
+use Rattle.std.specs.Prelude.{if◌then◌else◌, Ok, Err}
 use Prim.Native.Nat.{ℕ, ◌+◌, ◌*◌, ◌/◌, ◌%◌, ◌≤◌, ◌<◌}
 use mathlib.Core.Path.{◌≡◌, refl, sym, ap, ◌∙◌}
 use mathlib.Core.Bool.{Bool, true, false}
+use mathlib.Core.Logic.{◌⊎◌, inl, inr}
 use mathlib.Core.List.{List}
 use lib.Dec.{ltb}
 use native.Mathlib.Nat.{add-mul, div-add-mod', mod-lt, mul-le-mul, le-mul_of_pos_right, mul-div_cancel}
 use native.Mathlib.Omega.{arith}
 use borrow.Author.Tests.{ltb-true}
+use Rattle.machine.specs.declared.Cause.{Cause}
 use Rattle.machine.specs.Given.{Move, Move.To, Move.NoTick, Move.Range}
 use Rattle.rule.specs.declared.rrule.Frequency.{Frequency}
 use Rattle.rule.specs.declared.rrule.Rule.{Rule}
@@ -19,13 +21,13 @@ use Rattle.rule.specs.Times.{hour_passes, minute_passes, second_passes, time_pas
 use Rattle.rule.specs.Periods.{period, in_range}
 use Rattle.rule.specs.Moves.{day_in, tick_in, fine, ticks, next_day, first_from, target, bounded, move}
 use Rattle.periods.specs.declared.counter_date.Counter.{Counter}
-use Rattle.periods.specs.Counters.{number_of, step_of, counter_at, limit_of}
+use Rattle.periods.specs.Counters.{number_of, step_of, counter_at, limit_of, below}
 use Rattle.periods.proofs.Counted.{in_range_is, place_is_tick, hourly_hour, minutely_hour, minutely_minute, secondly_hour, secondly_minute, secondly_second}
 use Rattle.ticks.specs.Ticks.{tick_is_in, first_tick}
 use Rattle.ticks.proofs.Days.{some_ticks, ticks_fit}
 use Rattle.ticks.proofs.Searches.{passes_at, later, shifted}
-use Rattle.moves.specs.Increments.{ahead, skipped, landing, below, arrive, reached_by}
-use Rattle.moves.specs.Claims.{Flags, CounterStands, IncrementIsMove, ReachedTo, ReachedNoTick, ReachedRange}
+use Rattle.moves.specs.Increments.{ahead, skipped, landing, arrive, reached_by}
+use Rattle.moves.specs.Claims.{Flags, CounterStands, IncrementIsMove, ReachedTo, ReachedNoTick, ReachedRange, ReachedCause}
 use Rattle.moves.proofs.Ahead.{ahead_is, tick_ahead}
 use Rattle.moves.proofs.Steps.{limit_fits, skipped_none, is_standing, moves}
 
@@ -213,3 +215,9 @@ unfolding reached_by
 reached_range r (To k) e = absurd (let z : ◌≡◌ {A = ℕ} 0 1 = cc in omega arith)
 reached_range r NoTick e = absurd (let z : ◌≡◌ {A = ℕ} 0 1 = cc in omega arith)
 reached_range r Range e = refl
+
+pub reached_cause : ReachedCause
+unfolding reached_by
+reached_cause r (To k) cause e = absurd (let z : ◌≡◌ {A = ℕ} 0 1 = cc in omega arith)
+reached_cause r NoTick cause e = inl ((cc), refl)
+reached_cause r Range cause e = inr ((cc), refl)

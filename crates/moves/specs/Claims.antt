@@ -1,6 +1,7 @@
 -- What is claimed of a move over counters; proofs/ has a proof of each claim, under the same name in small letters.
 -- Assumes nothing.
-use Rattle.std.specs.Prelude.{ℕ, ◌+◌, ◌≤◌, ◌<◌, ◌≡◌, Bool, true, false, List, get_or}
+use Rattle.std.specs.Prelude.{ℕ, ◌+◌, ◌≤◌, ◌<◌, ◌≡◌, Bool, true, false, List, get_or, ◌⊎◌, Ok, Err}
+use Rattle.machine.specs.declared.Cause.{Cause}
 use Rattle.machine.specs.Given.{Move, Move.To, Move.NoTick, Move.Range}
 use Rattle.rule.specs.declared.rrule.Rule.{Rule}
 use Rattle.rule.specs.Instants.{last_instant}
@@ -9,7 +10,6 @@ use Rattle.rule.specs.Times.{hour_passes, minute_passes, second_passes}
 use Rattle.rule.specs.Periods.{in_range}
 use Rattle.rule.specs.Moves.{day_in, move}
 use Rattle.periods.specs.declared.counter_date.Counter.{Counter}
-use Rattle.periods.specs.declared.counter_date.Reached.{Reached}
 use Rattle.periods.specs.Counters.{counter_at}
 use Rattle.moves.specs.Increments.{stands, incremented, reached_by}
 
@@ -33,10 +33,16 @@ IncrementIsMove =
 
 -- What was reached tells the move: a counter is that of the period which the move goes to, and its k is that period.
 abbrev pub ReachedTo : Type 0
-ReachedTo = (r : Rule) (v : Move) (c : Counter) → reached_by r v ≡ Reached.To c → (v ≡ To c.k) × (c ≡ counter_at r c.k)
+ReachedTo = (r : Rule) (v : Move) (c : Counter) → reached_by r v ≡ Ok c → (v ≡ To c.k) × (c ≡ counter_at r c.k)
 
 abbrev pub ReachedNoTick : Type 0
-ReachedNoTick = (r : Rule) (v : Move) → reached_by r v ≡ Reached.NoTick → v ≡ NoTick
+ReachedNoTick = (r : Rule) (v : Move) → reached_by r v ≡ Err Cause.NoTick → v ≡ NoTick
 
 abbrev pub ReachedRange : Type 0
-ReachedRange = (r : Rule) (v : Move) → reached_by r v ≡ Reached.Range → v ≡ Range
+ReachedRange = (r : Rule) (v : Move) → reached_by r v ≡ Err Cause.Range → v ≡ Range
+
+-- A cause is told for no other move.
+abbrev pub ReachedCause : Type 0
+ReachedCause =
+    (r : Rule) (v : Move) (cause : Cause) → reached_by r v ≡ Err cause
+    → ((cause ≡ Cause.NoTick) × (v ≡ NoTick)) ⊎ ((cause ≡ Cause.Range) × (v ≡ Range))

@@ -2,7 +2,7 @@
 -- Assumes nothing.
 use mathlib.Core.Path.{ap, ◌∙◌}
 use native.Mathlib.Omega.{arith}
-use Rattle.moves.specs.Increments.{below}
+use Rattle.periods.specs.Counters.{below}
 use Rattle.moves.proofs.Ahead.{ahead_is}
 use Rattle.moves.proofs.counter_date.next_period.Goals as goal
 
