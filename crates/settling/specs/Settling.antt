@@ -1,6 +1,6 @@
 -- What becomes of a call after the walk over a period.
 -- Assumes nothing.
-use Rattle.std.specs.Prelude.{ℕ, ◌+◌, min, Bool, true, false, eqb}
+use Rattle.std.specs.Prelude.{ℕ, ◌+◌, min, Bool, true, false, eqb, Option, Some, None}
 use Rattle.machine.specs.declared.Cause.{Cause}
 use Rattle.machine.specs.declared.State.{State}
 use Rattle.machine.specs.declared.Stop.{Stop}
@@ -11,7 +11,6 @@ use Rattle.walks.specs.declared.rrule_iter.Why.{Why}
 use Rattle.walks.specs.declared.rrule_iter.Held.{Held}
 use Rattle.walks.specs.declared.rrule_iter.Walked.{Walked}
 use Rattle.walks.specs.Walks.{in_state}
-use Rattle.settling.specs.declared.rrule_iter.Settled.{Settled}
 
 -- What a call holds as it begins; the answer that it gives of what it holds; and what it holds after a move, which is counted up to the largest
 -- count that a u32 has.
@@ -30,15 +29,16 @@ abbrev pub moved_to : ℕ → Held → Held
 moved_to k h = record { cursor = move_to k h.cursor; moves = min (h.moves + 1) 4294967295; handed = h.handed }
 
 -- no candidate remains: stop with More where the buffer is full, with Limited where m moves are made
-abbrev pub settled_through : (full spent : Bool) → Held → Settled
-settled_through true spent h = Settled.Stops (answer_of Stop.More State.Running h)
-settled_through false true h = Settled.Stops (answer_of Stop.Limited State.Running h)
-settled_through false false h = Settled.Moves
+abbrev pub settled_through : (full spent : Bool) → Held → Option Answer
+settled_through true spent h = Some (answer_of Stop.More State.Running h)
+settled_through false true h = Some (answer_of Stop.Limited State.Running h)
+settled_through false false h = None
 
-unfoldable pub settled : Walked → (room m : ℕ) → Settled
+-- what a call that stops answers; none where it moves on
+unfoldable pub settled : Walked → (room m : ℕ) → Option Answer
 settled w room m = elim w.why [
-  | Why.Full ↦ Settled.Stops (answer_of Stop.More State.Running w.held)
-  | Why.Until ↦ Settled.Stops (answer_of Stop.Ended (State.Ended Cause.Until) w.held)
-  | Why.Count ↦ Settled.Stops (answer_of Stop.Ended (State.Ended Cause.Count) w.held)
+  | Why.Full ↦ Some (answer_of Stop.More State.Running w.held)
+  | Why.Until ↦ Some (answer_of Stop.Ended (State.Ended Cause.Until) w.held)
+  | Why.Count ↦ Some (answer_of Stop.Ended (State.Ended Cause.Count) w.held)
   | Why.Through ↦ settled_through (eqb w.held.handed room) (eqb w.held.moves m) w.held
 ]
