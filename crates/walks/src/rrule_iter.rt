@@ -1,6 +1,6 @@
 // A period's candidates: each is told by its number, as a second.
 ghost use Rattle.std.specs.Prelude.{◌≡◌, ◌+◌, ◌*◌, ◌%◌, ◌<◌, ◌^◌, get_or};
-ghost use Rattle.walks.specs.Walks.{Bytes, in_year, is_framed, second_on, second_at, candidate_at};
+ghost use Rattle.walks.specs.Walks.{in_year, is_framed, second_on, second_at, candidate_at};
 
 use machine::Cursor;
 use rule::rrule::Frequency;
@@ -54,23 +54,12 @@ pub fn midnight_of(first: u32, days: &[u16], day: usize) -> u64
     ensures is { result ≡ (first + get_or days.now day 0) * 86400 }
     ensures small { result < 2 ^ 50 }
 {
-    if days.len() <= day {
-        return (first as u64) * 86400;
-    }
-    (first as u64 + days[day] as u64) * 86400
+    let place = days.get(day).copied().unwrap_or(0);
+    (first as u64 + place as u64) * 86400
 }
-
-// Does nothing: it is here for its promise, that what a row of bytes holds are bytes.
-fn holds_bytes(row: &[u8])
-    ensures { Bytes row.now }
-{
-    nothing();
-}
-
-// Nothing at all.
-fn nothing() {}
 
 // Whether a frame is small enough that no sum wraps, as every period's is.
+#[tactic(auto, unfolding(crate::specs::Walks::is_framed))]
 pub fn is_framed(frame: Frame) -> bool
     ensures { result ≡ is_framed frame }
 {
@@ -88,10 +77,8 @@ pub fn second_on(
 ) -> u64
     ensures { result ≡ second_on (in_year frame first) days.now lists.now day time }
 {
-    holds_bytes(lists);
-    let freq = frame.freq;
     let midnight = midnight_of(first, days, day);
-    midnight + time_at(freq, frame.begins, frame.counts, lists, time)
+    midnight + time_at(frame.freq, frame.begins, frame.counts, lists, time)
 }
 
 // The candidate of this number, as a second. Of the year's first day 32 bits are read, so that no sum wraps.

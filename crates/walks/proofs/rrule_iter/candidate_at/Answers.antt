@@ -2,7 +2,6 @@
 -- Assumes nothing.
 use mathlib.Core.Path.{◌≡◌, sym, ◌∙◌}
 use mathlib.Core.Bool.{true, false}
-use borrow.Author.Tests.{not-true, not-false}
 use Rattle.walks.specs.Walks.{is_framed, candidate_at}
 use Rattle.walks.proofs.Walkable.{year_kept}
 use Rattle.walks.proofs.rrule_iter.candidate_at.Goals as goal
@@ -10,12 +9,12 @@ use Rattle.walks.proofs.rrule_iter.candidate_at.Goals.{Else-not-is_framed}
 
 -- behind the guard the frame is small
 small : (c : Else-not-is_framed) → is_framed c.args.frame ≡ true
-small c = sym c.is_framed.ensures ∙ not-false _ c.if-not-is_framed.false-raw
+small c = sym c.is_framed.ensures ∙ c.if-not-is_framed.false
 
 pub returns-then-not-is_framed : goal.returns-then-not-is_framed
 unfolding candidate_at
 returns-then-not-is_framed c =
-    let e : is_framed c.args.frame ≡ false = sym c.is_framed.ensures ∙ not-true _ c.if-not-is_framed.true-raw in
+    let e : is_framed c.args.frame ≡ false = sym c.is_framed.ensures ∙ c.if-not-is_framed.true in
     rw (e, candidate_at)
 
 pub returns : goal.returns

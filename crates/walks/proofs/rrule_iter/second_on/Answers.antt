@@ -11,7 +11,7 @@ overflow_add-result c =
     let a = c.args in
     let b : c.time_at.result < 2 ^ 40 =
     rw c.time_at.ensures
-    (time_below a.frame.freq a.frame.begins a.frame.counts a.lists.now a.time c.holds_bytes.ensures
+    (time_below a.frame.freq a.frame.begins a.frame.counts a.lists.now a.time c.fits-lists
     (omega arith)) in
     omega (arith, c.midnight_of-midnight.ensures.small)
 
