@@ -26,9 +26,5 @@ pub fn day_of_date(year: u32, month: u8, day: u8) -> u64
     ensures { result ≡ day_of_date year month day }
 {
     let before = masks::days_before_month(is_leap_year(year), month) as u64;
-    let first = days_before_year(year) + before;
-    if day == 0 {
-        return first;
-    }
-    first + (day as u64) - 1
+    days_before_year(year) + before + day.saturating_sub(1) as u64
 }

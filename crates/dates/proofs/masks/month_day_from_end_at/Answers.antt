@@ -1,23 +1,10 @@
--- `dates::masks::month_day_from_end_at` meets its contract: each table is what the calendar says at each place, by one computed test.
+-- `dates::masks::month_day_from_end_at` meets its contract: its two tables are what the calendar says at each place, by one computed test each.
 -- Assumes nothing.
-use Rattle.std.proofs.Common.{rules}
-use mathlib.Core.Bool.{true, false}
-use Prim.Native.Nat.{ℕ}
-use Rattle.calendar.specs.Calendar.{from_end, table_day}
-use Rattle.calendar.proofs.Table.{tab_at}
-use Rattle.calendar.proofs.Months.{past_table}
+use mathlib.Core.Path.{refl, ◌∙◌}
+use Rattle.calendar.specs.Calendar.{MonthDay, from_end, table_day}
+use Rattle.dates.proofs.YearTables.{reads}
 use Rattle.dates.proofs.masks.month_day_from_end_at.Goals as goal
 
-pub returns-then-place-lt373 : goal.returns-then-place-lt373
+pub returns : goal.returns
 unfolding table_day
-returns-then-place-lt373 c = rw c.if-long.true (tab_at (λ (n : ℕ). from_end (table_day true n)) 0 373 c.args.place (search rules))
-
-pub returns-else-place-lt373 : goal.returns-else-place-lt373
-returns-else-place-lt373 c = rw (c.if-long.true, past_table true c.args.place (search rules))
-
-pub returns-then-place-lt372 : goal.returns-then-place-lt372
-unfolding table_day
-returns-then-place-lt372 c = rw c.if-long.false (tab_at (λ (n : ℕ). from_end (table_day false n)) 0 372 c.args.place (search rules))
-
-pub returns-else-place-lt372 : goal.returns-else-place-lt372
-returns-else-place-lt372 c = rw (c.if-long.false, past_table false c.args.place (search rules))
+returns c = c.number_at.ensures ∙ reads from_end refl _ _ refl refl refl refl c.args.long c.args.place

@@ -1,12 +1,10 @@
--- `dates::masks::month_day_from_end_table` meets its contract: each table is what the calendar says, by one computed test.
+-- `dates::masks::month_day_from_end_table` meets its contract: its two tables are what the calendar says, by one computed test each.
 -- Assumes nothing.
-use Rattle.calendar.specs.Calendar.{year_table}
+use mathlib.Core.Path.{refl, ◌∙◌}
+use Rattle.calendar.specs.Calendar.{MonthDay, from_end, table_day}
+use Rattle.dates.proofs.YearTables.{whole}
 use Rattle.dates.proofs.masks.month_day_from_end_table.Goals as goal
 
-pub returns-then-long : goal.returns-then-long
-unfolding year_table
-returns-then-long c = rw c.if-long.true
-
-pub returns-else-long : goal.returns-else-long
-unfolding year_table
-returns-else-long c = rw c.if-long.false c.with_no_day.ensures
+pub returns : goal.returns
+unfolding table_day
+returns c = c.table_of.ensures ∙ whole from_end refl _ _ refl refl c.args.long
