@@ -32,13 +32,3 @@ mark_next from i was is l h m = record { same = simp length-set m.same; at = λ 
         later : Dec (k < i) → ltb k i ≡ ltb k (i + 1)
         later (yes p) = rw (lt-ltb k i p, lt-ltb k (i + 1) (omega arith))
         later (no p) = rw (le-ltb k i (omega arith), le-ltb k (i + 1) (omega arith))
-
--- all are marked
-pub mark_done : (from to i : ℕ) (was is : List Bool) → to ≤ i → i ≤ max from to → Marked from i was is → Marked from to was is
-mark_done from to i was is l h m =
-    record { same = m.same; at = λ k b. m.at k b ∙ ap (λ (t : Bool). get_or was k false || t) (same k (dec_le from k) (dec_lt k to)) }
-  where
-    same : (k : ℕ) → Dec (from ≤ k) → Dec (k < to) → (leb from k && ltb k i) ≡ (leb from k && ltb k to)
-    same k (no p) q = rw (lt-leb from k (omega arith))
-    same k (yes p) (yes q) = rw (lt-ltb k i (omega arith), lt-ltb k to q)
-    same k (yes p) (no q) = rw (le-ltb k i (omega arith), le-ltb k to (omega arith))

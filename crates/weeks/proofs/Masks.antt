@@ -5,7 +5,7 @@ use mathlib.Core.Bool.{Bool, true, false, ◌&&◌, ◌||◌, or-false, and-fals
 use mathlib.Core.List.{List}
 use Prim.Native.Nat.{ℕ, zero, suc, ◌+◌, ◌-◌, ◌*◌, min, ◌≤◌, ◌<◌}
 use native.Mathlib.Omega.{arith}
-use native.Mathlib.Decide.{dec_lt}
+use native.Mathlib.Decide.{dec_le, dec_lt}
 use lib.Dec.{ltb, leb}
 use lib.ListN.{length, get_or, replicate, length-replicate, get_or-replicate, get_or-eq_default}
 use lib.Seq.{ext_get_or}
@@ -82,6 +82,15 @@ none_done w s y skipped =
       at = λ k h. get_or-replicate 373 k false false h ∙ rw (le-ltb (k + skipped) (7 * 0) (omega arith));
     }
 
+-- a stretch that is cut at e is cut at its end alone
+begins : (k a b e : ℕ) → (leb (min a e) k && ltb k (min b e)) ≡ (leb a k && ltb k (min b e))
+begins k a b e = go (dec_le a k) (dec_lt k e)
+  where
+    go : Dec (a ≤ k) → Dec (k < e) → (leb (min a e) k && ltb k (min b e)) ≡ (leb a k && ltb k (min b e))
+    go (yes l) q = rw (le-leb a k l, le-leb (min a e) k (omega arith))
+    go (no l) (yes q) = rw (lt-leb a k (omega arith), lt-leb (min a e) k (omega arith))
+    go (no l) (no q) = rw (le-ltb k (min b e) (omega arith), and-false (leb (min a e) k), and-false (leb a k))
+
 -- One week more, over numbers and tests alone: place k has the flag b, a mask has e days, and t says whether week j passes.
 module _ (k skipped j e : ℕ) (b t : Bool) (in_week : 7 * j ≤ k + skipped → k + skipped < 7 * j + 7 → b ≡ (ltb k e && t)) where
   cut : k + skipped < 7 * j + 7 → Dec (k < e) → ltb k (min (7 * j + 7 - skipped) e) ≡ ltb k e
@@ -130,12 +139,12 @@ module _ (w : ℕ) (s : List Bool) (y : ℕ) (x : Weeks) (around : x ≡ weeks_a
       }
 
   -- a week that passes, and whose days in the mask are marked
-  pub mark_week : (j from to : ℕ) (m n : List Bool) → passes_around s x j ≡ true → Upto w s y x.skipped j m → from ≡ 7 * j - x.skipped
+  pub mark_week : (j from to : ℕ) (m n : List Bool) → passes_around s x j ≡ true → Upto w s y x.skipped j m → from ≡ min (7 * j - x.skipped) (year_length y + 7)
       → to ≡ min (7 * j + 7 - x.skipped) (year_length y + 7) → Marked from to m n → Upto w s y x.skipped (j + 1) n
   mark_week j from to m n p u e f t =
       record {
         size = t.same ∙ u.size;
-        at = λ k h. t.at k (omega (arith, u.size)) ∙ rw (e, f, u.at k h)
+        at = λ k h. t.at k (omega (arith, u.size)) ∙ rw (e, f, u.at k h, begins k (7 * j - x.skipped) (7 * j + 7 - x.skipped) (year_length y + 7))
             (one_more k x.skipped j (year_length y + 7) (mask_at w s y k) true (λ l q. rw p at (in_week k j l q)));
       }
 

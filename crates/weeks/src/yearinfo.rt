@@ -1,5 +1,5 @@
 // A year as the day sets need it, and which of its days pass BYWEEKNO.
-ghost use Rattle.std.specs.Prelude.{◌≡◌, min, ◌+◌, ◌-◌, ◌%◌, ◌≤◌, length};
+ghost use Rattle.std.specs.Prelude.{◌≡◌, ◌+◌, ◌-◌, ◌%◌, ◌≤◌, length};
 ghost use Rattle.calendar.specs.Calendar.{new_year};
 ghost use Rattle.rule.specs.Days.{week1};
 ghost use Rattle.weeks.specs.Weeks.{year_info, has_mask, week_mask, weeks_around, Counted, passes_around, slots_pass, Marked};
@@ -15,7 +15,7 @@ pub struct Year {
     pub first: u64,
 }
 
-// The year with a number; after 9999 a blank one.
+// The year with a number; after 9999 a blank one: no Option, since the clause `year_info` of old, which tables and masks read, may not change.
 pub fn year_info(number: u32) -> Year
     ensures { result ≡ year_info number }
 {
@@ -59,8 +59,8 @@ pub fn week_no_mask(year: u32, wkst: u8, weeknos: &[bool; 106]) -> [bool; 373]
         if !week_passes(weeknos, weeks, week) {
             continue;
         }
-        let from = less(7 * week, weeks.skipped);
-        let to = at_most(less(7 * week + 7, weeks.skipped), days);
+        let from = (7 * week).saturating_sub(weeks.skipped).min(days);
+        let to = (7 * week + 7).saturating_sub(weeks.skipped).min(days);
         mark(&mut mask, from, to);
     }
     mask
@@ -134,28 +134,12 @@ fn number_passes(weeknos: &[bool; 106], number: usize, count: usize) -> bool
     weeknos[52 + number] | weeknos[52 + number - count]
 }
 
-// The first number less the second, and 0 if it is less.
-fn less(x: usize, y: usize) -> usize
-    ensures { result ≡ x - y }
-{
-    if x < y { 0 } else { x - y }
-}
-
-// The lesser of two numbers.
-fn at_most(x: usize, y: usize) -> usize
-    ensures { result ≡ min x y }
-{
-    if x < y { x } else { y }
-}
-
 // Marks the places of a mask from one up to another.
 fn mark(mask: &mut [bool; 373], from: usize, to: usize)
-    requires { (length mask.old ≡ 373) × (to ≤ 373) }
+    requires { (length mask.old ≡ 373) × (from ≤ to) × (to ≤ 373) }
     ensures { Marked from to mask.old mask.new }
 {
-    let mut i = from;
-    while i < to {
-        mask[i] = true;
-        i += 1;
+    for flag in &mut mask[from..to] {
+        *flag = true;
     }
 }

@@ -51,7 +51,7 @@ loop-week-preserved-then-not-week_passes c =
 pub mark-requires : goal.mark-requires
 mark-requires c =
     let l = c in
-    (l.loop-week.invariant.1.size, omega (arith, longest l.args.year))
+    (l.loop-week.invariant.1.size, omega arith, omega (arith, longest l.args.year))
 
 pub loop-week-preserved : goal.loop-week-preserved
 loop-week-preserved c =
@@ -62,7 +62,7 @@ loop-week-preserved c =
     let a = b.args in (
       omega arith,
       mark_week a.wkst a.weeknos.now a.year b.weeks_around-weeks.result b.weeks_around-weeks.ensures (has here.Else-not-has_mask) l.loop-week.week _ _
-          l.loop-week.mask _ (sym e.week_passes.ensures ∙ not-false _ e.if-not-week_passes.false-raw) l.loop-week.invariant.1 c.less-from.ensures
+          l.loop-week.mask _ (sym e.week_passes.ensures ∙ not-false _ e.if-not-week_passes.false-raw) l.loop-week.invariant.1 (omega arith)
           (omega arith)
           c.mark.ensures,
     )
