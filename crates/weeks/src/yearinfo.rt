@@ -15,7 +15,7 @@ pub struct Year {
     pub first: u64,
 }
 
-// The year with a number; after 9999 a blank one: no Option, since the clause `year_info` of old, which tables and masks read, may not change.
+// The year with a number; after 9999 a blank one, and no Option: what the clause `year_info` promises may not change.
 pub fn year_info(number: u32) -> Year
     ensures { result ≡ year_info number }
 {

@@ -12,18 +12,12 @@ use Rattle.nths.specs.Masks.{nth_mask}
 use Rattle.years.specs.declared.lists.Asked.{Asked}
 use Rattle.years.specs.Info.{no_table, no_mask, table_where, mask_where, asks_more, info_by, info_of}
 
--- what is not asked for is blank, and what is asked for is made
+-- what is not asked for is blank
 pub table_blank : (a : Bool) (t : List ℕ) → a ≡ false → no_table ≡ table_where a t
 table_blank a t h = rw h
 
-pub table_made : (a : Bool) (x t : List ℕ) → a ≡ true → x ≡ t → x ≡ table_where a t
-table_made a x t h e = rw h e
-
 pub mask_blank : (a : Bool) (m : List Bool) → a ≡ false → no_mask ≡ mask_where a m
 mask_blank a m h = rw h
-
-pub mask_made : (a : Bool) (x m : List Bool) → a ≡ true → x ≡ m → x ≡ mask_where a m
-mask_made a x m h e = rw h e
 
 module _ (a : Asked) (inyear : Bool) (wkst y : ℕ) (weeknos days : List Bool) (year : Year) (e : year ≡ year_info y) where
   pub info_is : (months monthdays fromends : List ℕ) (weeks nths : List Bool)

@@ -23,51 +23,6 @@ pub struct IterInfo {
     pub nths: [bool; 373],
 }
 
-fn months_where(asked: bool, long: bool) -> [u8; 373]
-    ensures { result ≡ table_where asked (month_table long) }
-{
-    if !asked {
-        return [0; 373];
-    }
-    month_table(long)
-}
-
-fn month_days_where(asked: bool, long: bool) -> [u8; 373]
-    ensures { result ≡ table_where asked (month_day_table long) }
-{
-    if !asked {
-        return [0; 373];
-    }
-    month_day_table(long)
-}
-
-fn from_ends_where(asked: bool, long: bool) -> [u8; 373]
-    ensures { result ≡ table_where asked (from_end_table long) }
-{
-    if !asked {
-        return [0; 373];
-    }
-    month_day_from_end_table(long)
-}
-
-fn weeks_where(asked: bool, number: u32, wkst: u8, byweekno: &[bool; 106]) -> [bool; 373]
-    ensures { result ≡ mask_where asked (week_mask wkst byweekno.now number) }
-{
-    if !asked {
-        return [false; 373];
-    }
-    week_no_mask(number, wkst, byweekno)
-}
-
-fn nths_where(asked: bool, inyear: bool, year: Year, byday: &[bool; 749]) -> [bool; 373]
-    ensures { result ≡ mask_where asked (nth_mask inyear year byday.now) }
-{
-    if !asked {
-        return [false; 373];
-    }
-    neg_weekday_mask(inyear, year, byday)
-}
-
 // Whether anything is asked for beside the table of months.
 fn asks_more(asked: Asked) -> bool
     ensures { result ≡ asks_more asked }
@@ -93,12 +48,8 @@ fn month_year(year: Year) -> IterInfo
     ensures { result ≡ info_by year (month_table year.long) no_table no_table no_mask no_mask }
 {
     IterInfo {
-        year,
         months: month_table(year.long),
-        monthdays: [0; 373],
-        fromends: [0; 373],
-        weeks: [false; 373],
-        nths: [false; 373],
+        ..bare_year(year)
     }
 }
 
@@ -107,12 +58,9 @@ fn masked_year(year: Year, weeks: [bool; 373], nths: [bool; 373]) -> IterInfo
     ensures { result ≡ info_by year no_table no_table no_table weeks nths }
 {
     IterInfo {
-        year,
-        months: [0; 373],
-        monthdays: [0; 373],
-        fromends: [0; 373],
         weeks,
         nths,
+        ..bare_year(year)
     }
 }
 
@@ -127,14 +75,34 @@ pub fn rebuild(asked: Asked, inyear: bool, number: u32, rule: &Rule) -> IterInfo
         }
         return bare_year(year);
     }
-    let weeks = weeks_where(asked.weekno, number, rule.wkst, &rule.byweekno);
-    let nths = nths_where(asked.nth, inyear, year, &rule.byday);
+    let weeks = if asked.weekno {
+        week_no_mask(number, rule.wkst, &rule.byweekno)
+    } else {
+        [false; 373]
+    };
+    let nths = if asked.nth {
+        neg_weekday_mask(inyear, year, &rule.byday)
+    } else {
+        [false; 373]
+    };
     if !(asked.month | asked.monthday) {
         return masked_year(year, weeks, nths);
     }
-    let months = months_where(asked.month, year.long);
-    let monthdays = month_days_where(asked.monthday, year.long);
-    let fromends = from_ends_where(asked.monthday, year.long);
+    let months = if asked.month {
+        month_table(year.long)
+    } else {
+        [0; 373]
+    };
+    let monthdays = if asked.monthday {
+        month_day_table(year.long)
+    } else {
+        [0; 373]
+    };
+    let fromends = if asked.monthday {
+        month_day_from_end_table(year.long)
+    } else {
+        [0; 373]
+    };
     IterInfo {
         year,
         months,
