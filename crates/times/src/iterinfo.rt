@@ -3,7 +3,6 @@
 ghost use Rattle.std.specs.Prelude.{◌≡◌, ◌+◌, ◌/◌, ◌≤◌, length};
 ghost use Rattle.times.specs.TimeSets.{flag_in, count_of, open_of, times_len, value_at, time_at};
 
-use basics::rrule::frequency_number;
 use rule::rrule::Frequency;
 
 // How many hours, minutes and seconds there are to choose from.
@@ -19,14 +18,13 @@ pub struct Counts {
 pub fn open_times(freq: Frequency, begins: u32, flags: &[bool; 144], counts: Counts) -> Counts
     ensures { result ≡ open_of freq begins flags.now counts }
 {
-    let number = frequency_number(freq);
     let hour = flag_in(flags, 0, 24, begins / 3600);
     let minute = flag_in(flags, 24, 60, begins / 60 % 60);
     let second = flag_in(flags, 84, 60, begins % 60);
     Counts {
-        hours: count_of(number < 4, counts.hours, hour),
-        minutes: count_of(number < 5, counts.minutes, minute),
-        seconds: count_of(number < 6, counts.seconds, second),
+        hours: count_of(freq < Frequency::Hourly, counts.hours, hour),
+        minutes: count_of(freq < Frequency::Minutely, counts.minutes, minute),
+        seconds: count_of(freq < Frequency::Secondly, counts.seconds, second),
     }
 }
 
@@ -48,7 +46,7 @@ fn count_of(coarser: bool, count: u8, passes: bool) -> u8
     if coarser {
         return count;
     }
-    if passes { 1 } else { 0 }
+    passes as u8
 }
 
 // How many times a period has.
@@ -62,16 +60,29 @@ pub fn times_len(counts: Counts) -> u32
 pub fn time_at(freq: Frequency, begins: u32, counts: Counts, lists: &[u8; 144], t: u32) -> u64
     ensures { result ≡ time_at freq begins counts lists.now t }
 {
-    let number = frequency_number(freq);
     let minutecount = counts.minutes as u32;
     let secondcount = counts.seconds as u32;
     let past = quotient(t, secondcount);
     let place = quotient(past, minutecount);
-    let hour = value_at(number < 4, lists, 0, 24, place, begins / 3600);
+    let hour = value_at(freq < Frequency::Hourly, lists, 0, 24, place, begins / 3600);
     let minuteplace = past - place * minutecount;
-    let minute = value_at(number < 5, lists, 24, 60, minuteplace, begins / 60 % 60);
+    let minute = value_at(
+        freq < Frequency::Minutely,
+        lists,
+        24,
+        60,
+        minuteplace,
+        begins / 60 % 60,
+    );
     let secondplace = t - past * secondcount;
-    let second = value_at(number < 6, lists, 84, 60, secondplace, begins % 60);
+    let second = value_at(
+        freq < Frequency::Secondly,
+        lists,
+        84,
+        60,
+        secondplace,
+        begins % 60,
+    );
     (hour as u64) * 3600 + ((minute as u64) * 60 + (second as u64))
 }
 

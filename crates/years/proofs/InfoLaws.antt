@@ -1,5 +1,6 @@
 -- The tables and masks of a year, made where they are asked for, and the year with them.
 -- Assumes nothing.
+use Rattle.std.specs.Prelude.{if◌then◌else◌}
 use Prim.Native.Nat.{ℕ}
 use mathlib.Core.Path.{◌≡◌, ap, ◌∙◌}
 use mathlib.Core.Bool.{Bool, true, false, ◌||◌}
@@ -12,12 +13,12 @@ use Rattle.nths.specs.Masks.{nth_mask}
 use Rattle.years.specs.declared.lists.Asked.{Asked}
 use Rattle.years.specs.Info.{no_table, no_mask, table_where, mask_where, asks_more, info_by, info_of}
 
--- what is not asked for is blank
-pub table_blank : (a : Bool) (t : List ℕ) → a ≡ false → no_table ≡ table_where a t
-table_blank a t h = rw h
+-- what is not asked for is blank, and what is asked for is made
+pub blank : {A : Type 0} (a : Bool) (made none : A) → a ≡ false → none ≡ (if a then made else none)
+blank a made none h = rw h
 
-pub mask_blank : (a : Bool) (m : List Bool) → a ≡ false → no_mask ≡ mask_where a m
-mask_blank a m h = rw h
+pub made : {A : Type 0} (a : Bool) (x made none : A) → a ≡ true → x ≡ made → x ≡ (if a then made else none)
+made a x m none h e = rw h e
 
 module _ (a : Asked) (inyear : Bool) (wkst y : ℕ) (weeknos days : List Bool) (year : Year) (e : year ≡ year_info y) where
   pub info_is : (months monthdays fromends : List ℕ) (weeks nths : List Bool)
@@ -41,12 +42,12 @@ module _ (a : Asked) (inyear : Bool) (wkst y : ℕ) (weeknos days : List Bool) (
   months_alone months h m =
       let d = neither a.monthday (a.weekno || a.nth) h in
       let w = neither a.weekno a.nth d.1 in
-      info_is months no_table no_table no_mask no_mask m (table_blank a.monthday _ d.0) (table_blank a.monthday _ d.0)
-      (mask_blank a.weekno _ w.0) (mask_blank a.nth _ w.1)
+      info_is months no_table no_table no_mask no_mask m (blank a.monthday _ no_table d.0) (blank a.monthday _ no_table d.0)
+      (blank a.weekno _ no_mask w.0) (blank a.nth _ no_mask w.1)
 
   pub masks_alone : (weeks nths : List Bool) → (a.month || a.monthday) ≡ false
       → weeks ≡ mask_where a.weekno (week_mask wkst weeknos y) → nths ≡ mask_where a.nth (nth_mask inyear year days)
       → info_by year no_table no_table no_table weeks nths ≡ info_of a inyear wkst weeknos days y
   masks_alone weeks nths h w n =
       let m = neither a.month a.monthday h in
-      info_is no_table no_table no_table weeks nths (table_blank a.month _ m.0) (table_blank a.monthday _ m.1) (table_blank a.monthday _ m.1) w n
+      info_is no_table no_table no_table weeks nths (blank a.month _ no_table m.0) (blank a.monthday _ no_table m.1) (blank a.monthday _ no_table m.1) w n

@@ -1,29 +1,32 @@
 -- `times::iterinfo::time_at` meets its contract.
 -- Assumes nothing.
+use Rattle.std.proofs.Common.{rules}
+use mathlib.Core.Bool.{Bool}
 use Prim.Native.Nat.{ℕ, ◌+◌, ◌-◌, ◌*◌, ◌/◌, ◌%◌}
 use mathlib.Core.Path.{◌≡◌}
 use mathlib.Core.List.{List}
 use native.Mathlib.Nat.{div-mul-le_self, mod-eq-sub-div-mul}
 use native.Mathlib.Omega.{arith}
-use lib.Dec.{ltb}
 use Rattle.rule.specs.declared.rrule.Frequency.{Frequency}
-use Rattle.rule.specs.Filling.{frequency_number}
+use Rattle.rule.specs.Filling.{is_below}
 use Rattle.times.specs.declared.iterinfo.Counts.{Counts}
 use Rattle.times.specs.TimeSets.{value_at, time_at}
 use Rattle.times.proofs.iterinfo.time_at.Goals as goal
 
 -- the time from its parts, as the code works them out
-put_together : (freq : Frequency) (begins : ℕ) (counts : Counts) (lists : List ℕ) (t : ℕ) (number past place hour minute second : ℕ)
-    → number ≡ frequency_number freq
+put_together : (freq : Frequency) (begins : ℕ) (counts : Counts) (lists : List ℕ) (t : ℕ) (hourly minutely secondly : Bool) (past place hour minute second : ℕ)
+    → hourly ≡ is_below freq Frequency.Hourly
+    → minutely ≡ is_below freq Frequency.Minutely
+    → secondly ≡ is_below freq Frequency.Secondly
     → past ≡ t / counts.seconds
     → place ≡ past / counts.minutes
-    → hour ≡ value_at (ltb number 4) lists 0 24 place (begins / 3600)
-    → minute ≡ value_at (ltb number 5) lists 24 60 (past - place * counts.minutes) (begins / 60 % 60)
-    → second ≡ value_at (ltb number 6) lists 84 60 (t - past * counts.seconds) (begins % 60)
+    → hour ≡ value_at hourly lists 0 24 place (begins / 3600)
+    → minute ≡ value_at minutely lists 24 60 (past - place * counts.minutes) (begins / 60 % 60)
+    → second ≡ value_at secondly lists 84 60 (t - past * counts.seconds) (begins % 60)
     → hour * 3600 + (minute * 60 + second) ≡ time_at freq begins counts lists t
 unfolding time_at
-put_together freq begins counts lists t number past place hour minute second n p q h m s =
-    rw (h, m, s, q, p, n, mod-eq-sub-div-mul t counts.seconds, mod-eq-sub-div-mul (t / counts.seconds) counts.minutes)
+put_together freq begins counts lists t hourly minutely secondly past place hour minute second x y z p q h m s =
+    rw (h, m, s, q, p, x, y, z, mod-eq-sub-div-mul t counts.seconds, mod-eq-sub-div-mul (t / counts.seconds) counts.minutes)
 
 pub overflow_mul-minuteplace : goal.overflow_mul-minuteplace
 overflow_mul-minuteplace c =
@@ -47,8 +50,8 @@ pub returns : goal.returns
 returns c =
     let q = c in
     let a = q.args in
-    put_together a.freq a.begins a.counts a.lists.now a.t _ _ _ _ _ _
-    q.frequency_number-number.ensures
+    put_together a.freq a.begins a.counts a.lists.now a.t c.lt.result c.lt-2.result c.lt-3.result _ _ _ _ _
+    (search rules) (search rules) (search rules)
     q.quotient-past.ensures
     q.quotient-place.ensures
     c.value_at-hour.ensures

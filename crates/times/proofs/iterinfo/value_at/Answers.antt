@@ -2,16 +2,16 @@
 -- Assumes nothing.
 use Prim.Native.Nat.{◌+◌}
 use native.Mathlib.Omega.{arith}
-use borrow.Author.Tests.{not-true, not-false, le-ltb, lt-ltb}
+use borrow.Author.Tests.{le-ltb, lt-ltb}
 use Rattle.times.proofs.iterinfo.value_at.Goals as goal
 
 pub returns-then-not-coarser : goal.returns-then-not-coarser
-returns-then-not-coarser c = rw (not-true c.args.coarser c.if-not-coarser.true-raw)
+returns-then-not-coarser c = rw c.if-not-coarser.true
 
 pub returns-then-size-place : goal.returns-then-size-place
 returns-then-size-place c =
     let a = c.args in
-    rw (not-false a.coarser c.if-not-coarser.false-raw, le-ltb a.place a.size (omega arith))
+    rw (c.if-not-coarser.false, le-ltb a.place a.size (omega arith))
 
 pub overflow_cast-result-2 : goal.overflow_cast-result-2
 overflow_cast-result-2 c =
@@ -21,4 +21,4 @@ overflow_cast-result-2 c =
 pub returns : goal.returns
 returns c =
     let a = c.args in
-    rw (not-false a.coarser c.if-not-coarser.false-raw, lt-ltb a.place a.size (omega arith))
+    rw (c.if-not-coarser.false, lt-ltb a.place a.size (omega arith))
