@@ -34,8 +34,8 @@ fn put(set: &[bool], flags: &mut [bool], from: usize)
     ensures { flags.new ≡ written flags.old from (or_all (length set.now) set.now) }
 {
     let all = is_empty(set);
-    for i in 0..set.len() {
-        flags[from + i] = set[i] | all;
+    for (i, flag) in set.iter().enumerate() {
+        flags[from + i] = *flag | all;
     }
 }
 
@@ -62,12 +62,11 @@ fn collect(flags: &[bool], from: usize, size: usize, list: &mut [u8]) -> u8
     ensures lists { list.new ≡ written list.old from (flagged from size flags.now) }
 {
     let mut count: u8 = 0;
-    for i in 0..size {
-        if !flags[from + i] {
-            continue;
+    for (i, flag) in flags[from..from + size].iter().enumerate() {
+        if *flag {
+            list[from + count as usize] = i as u8;
+            count += 1;
         }
-        list[from + count as usize] = i as u8;
-        count += 1;
     }
     count
 }

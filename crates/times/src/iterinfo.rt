@@ -64,29 +64,18 @@ pub fn time_at(freq: Frequency, begins: u32, counts: Counts, lists: &[u8; 144], 
     let secondcount = counts.seconds as u32;
     let past = quotient(t, secondcount);
     let place = quotient(past, minutecount);
-    let hour = value_at(freq < Frequency::Hourly, lists, 0, 24, place, begins / 3600);
+    let anyhour = freq < Frequency::Hourly;
+    let hour = value_at(anyhour, lists, 0, 24, place, begins / 3600);
     let minuteplace = past - place * minutecount;
-    let minute = value_at(
-        freq < Frequency::Minutely,
-        lists,
-        24,
-        60,
-        minuteplace,
-        begins / 60 % 60,
-    );
+    let anyminute = freq < Frequency::Minutely;
+    let minute = value_at(anyminute, lists, 24, 60, minuteplace, begins / 60 % 60);
     let secondplace = t - past * secondcount;
-    let second = value_at(
-        freq < Frequency::Secondly,
-        lists,
-        84,
-        60,
-        secondplace,
-        begins % 60,
-    );
+    let anysecond = freq < Frequency::Secondly;
+    let second = value_at(anysecond, lists, 84, 60, secondplace, begins % 60);
     (hour as u64) * 3600 + ((minute as u64) * 60 + (second as u64))
 }
 
-// How often a count goes into a number, with no division where it is plain; 0 where the count is 0.
+// How often a count goes into a number, 0 where the count is 0: no `checked_div`, since a division costs more than the tests where it is plain.
 pub fn quotient(number: u32, count: u32) -> u32
     ensures { result ≡ number / count }
 {

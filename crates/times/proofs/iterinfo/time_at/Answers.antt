@@ -50,7 +50,7 @@ pub returns : goal.returns
 returns c =
     let q = c in
     let a = q.args in
-    put_together a.freq a.begins a.counts a.lists.now a.t c.lt.result c.lt-2.result c.lt-3.result _ _ _ _ _
+    put_together a.freq a.begins a.counts a.lists.now a.t c.lt-anyhour.result c.lt-anyminute.result c.lt-anysecond.result _ _ _ _ _
     (search rules) (search rules) (search rules)
     q.quotient-past.ensures
     q.quotient-place.ensures
