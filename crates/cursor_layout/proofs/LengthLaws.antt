@@ -1,6 +1,6 @@
 -- Bytes of the length that is asked for, and others.
 -- Assumes nothing.
-use Rattle.std.specs.Prelude.{if◌then◌else◌}
+use Rattle.std.specs.Prelude.{if◌then◌else◌, Some}
 use Prim.Native.Nat.{ℕ, zero, suc, ◌≤◌}
 use mathlib.Core.Path.{◌≡◌, refl, sym, ap, ◌∙◌}
 use mathlib.Core.Bool.{Bool, true, false}
@@ -10,7 +10,7 @@ use native.Mathlib.Omega.{arith}
 use lib.ListN.{length, set}
 use borrow.Author.Tests.{eqb-true, eqb-false, eq-eqb, ne_eqb}
 use Rattle.machine.specs.declared.Cursor.{Cursor}
-use Rattle.edge.specs.Layout.{Decoded.holds, cursor_in, is_cursor_bytes, decode_cursor}
+use Rattle.edge.specs.Layout.{cursor_in, is_cursor_bytes, decode_cursor}
 use Rattle.edge.proofs.EdgeLaws.{cursor_size, cursor_held}
 use Rattle.cursor_layout.specs.Lengths.{of_length, Put, put, put_to}
 
@@ -60,5 +60,5 @@ module _ (n : ℕ) (encoded bytes : List ℕ) where
     put_at h = ap (λ (p : Put). p.bytes) (done ∙ sym (put_whole h))
 
 -- the cursor that is read of bytes which hold one
-pub cursor_is : (bytes : List ℕ) (c : Cursor) → is_cursor_bytes bytes ≡ true → c ≡ cursor_in (of_length 22 bytes) → decode_cursor bytes ≡ holds c
+pub cursor_is : (bytes : List ℕ) (c : Cursor) → is_cursor_bytes bytes ≡ true → c ≡ cursor_in (of_length 22 bytes) → decode_cursor bytes ≡ Some c
 cursor_is bytes c e f = cursor_held bytes c e (f ∙ ap cursor_in (of_length_lem 22 bytes (cursor_size bytes e)))

@@ -1,6 +1,6 @@
 -- What runs from C keep to, and what they list one after the other: the machine's calls, as C is shown them.
 -- Assumes nothing.
-use Rattle.std.specs.Prelude.{if◌then◌else◌, Some, Ok, Err}
+use Rattle.std.specs.Prelude.{if◌then◌else◌, Option, Some, None, Ok, Err}
 use Prim.Native.Nat.{ℕ, ◌≤◌, ◌<◌}
 use mathlib.Core.Path.{◌≡◌, refl, sym, ap, ◌∙◌, subst}
 use mathlib.Core.Logic.{◌⊎◌, inl, inr, ⊎_elim}
@@ -23,11 +23,10 @@ use Rattle.machine.specs.Compute.{outcome, run}
 use Rattle.machine.specs.Calls.{refuse, call, answered, chain, Each}
 use Rattle.machine.specs.Promises.{Reason, KeepsTo}
 use Rattle.machine.proofs.Theorems.{ended_returns, run_keeps, accepted, chain_lists}
-use Rattle.rule.specs.Refusals.{Verdict}
 use Rattle.rule.specs.declared.rrule.Rule.{Rule}
 use Rattle.rule.specs.Raw.{Raw}
-use Rattle.rule.specs.Refusals.{verdict}
-use Rattle.rule.specs.Filling.{given, fill, answers, checked}
+use Rattle.rule.specs.Refusals.{Verdict, verdict}
+use Rattle.rule.specs.Filling.{given, fill, answers, Checked, checked}
 use Rattle.rule.specs.Records.{yielded, Sized}
 use Rattle.rule.specs.Meaning.{RisesFrom}
 use Rattle.rule.specs.Run.{count_of, periods, fresh_of, run_of}
@@ -36,7 +35,7 @@ use Rattle.rule.proofs.FillKeeps.{fill_sized}
 use Rattle.rule.proofs.GoodRecords.{given_sized, good_records}
 use Rattle.rule.proofs.Demand.{never_by_interval, demand_three}
 use Rattle.rule.proofs.Cursors.{lawful}
-use Rattle.edge.specs.Layout.{Decoded, Decoded.nothing, Decoded.holds, record_length, cursor_length, encode_record, decode_record, cause_number}
+use Rattle.edge.specs.Layout.{record_length, cursor_length, encode_record, decode_record, cause_number}
 use Rattle.edge.specs.Layout.{state_number, state_of, encode_cursor, decode_cursor}
 use Rattle.edge.specs.Edge.{Said, said, said_of, check_says, fresh_says, Shown, shown, stop_number, refused_shows, answer_shows, shows, unreadable, run_from, run_says}
 use Rattle.edge.specs.Chains.{StoppedFor, RunKept, RunKeeps, EndedStays, ToldC, after_run, runs_tell, NoneRefused, ListsC, FreshOfChecked, ChainListed, ChainOverBytes}
@@ -86,7 +85,7 @@ call_cases P true g c x a b = go (well_formed g c)
 
 -- a run over any bytes: refused with a number below 100, or the run of a good record, from the cursor that the bytes hold
 run_cases : (rulebytes cursorbytes : List ℕ) (x : Call ℕ) (P : Shown → Type 0) → ((n : ℕ) → n < 100 → P (refused_shows n cursorbytes x.buffer))
-    → ((r : Rule) (c : Cursor) → decode_record rulebytes ≡ holds r → yielded r ≡ true → P (shows (answered (run (periods r) c x)) cursorbytes))
+    → ((r : Rule) (c : Cursor) → decode_record rulebytes ≡ Some r → yielded r ≡ true → P (shows (answered (run (periods r) c x)) cursorbytes))
     → P (run_says rulebytes cursorbytes x.buffer x.budget)
 unfolding run_says run_of
 run_cases rulebytes cursorbytes x P a b = go (decode_record rulebytes) (decode_cursor cursorbytes) refl
@@ -99,10 +98,10 @@ run_cases rulebytes cursorbytes x P a b = go (decode_record rulebytes) (decode_c
     faulty c Fault.Record = a 20 (omega arith)
     faulty c Fault.Cursor = a 21 (omega arith)
 
-    go : (d : Decoded Rule) (e : Decoded Cursor) → decode_record rulebytes ≡ d → P (run_from d e cursorbytes x.buffer x.budget)
-    go nothing e p = a 20 (omega arith)
-    go (holds r) nothing p = a (unreadable (yielded r)) (unread (yielded r))
-    go (holds r) (holds c) p = call_cases (λ o. P (shows (answered o) cursorbytes)) (yielded r) (periods r) c x (faulty c) (b r c p)
+    go : (d : Option Rule) (e : Option Cursor) → decode_record rulebytes ≡ d → P (run_from d e cursorbytes x.buffer x.budget)
+    go None e p = a 20 (omega arith)
+    go (Some r) None p = a (unreadable (yielded r)) (unread (yielded r))
+    go (Some r) (Some c) p = call_cases (λ o. P (shows (answered o) cursorbytes)) (yielded r) (periods r) c x (faulty c) (b r c p)
 
 pub run_keeps_to : RunKeeps
 run_keeps_to rulebytes cursorbytes x =
@@ -123,7 +122,7 @@ ended_state g c x o k e = go o.stop e k.reason
     go (Stop.Refused fault) e q = absurd q
 
 -- a run from a cursor that has ended
-from_ended : (rulebytes : List ℕ) (r : Rule) (c : Cursor) (y : Call ℕ) (cause : Cause) → decode_record rulebytes ≡ holds r → yielded r ≡ true
+from_ended : (rulebytes : List ℕ) (r : Rule) (c : Cursor) (y : Call ℕ) (cause : Cause) → decode_record rulebytes ≡ Some r → yielded r ≡ true
     → c.state ≡ State.Ended cause
     → run_says rulebytes (encode_cursor c) y.buffer y.budget ≡ shown 102 (encode_cursor c) y.buffer 0 0 (state_number c.state)
 unfolding run_says run_of
@@ -199,31 +198,28 @@ other_state (State.Ended Cause.NoTick) h = (Cause.NoTick, refl, λ e. let z : �
 other_state (State.Ended Cause.Range) h = (Cause.Range, refl, λ e. let z : ◌≡◌ {A = ℕ} 5 1 = ap cause_number e in omega arith)
 
 -- an accepted check has left the record
-check_left : (v : Verdict) (r : Rule) (bytes : List ℕ) → (said_of v r bytes).number ≡ 0 → (v ≡ Ok tt) × ((said_of v r bytes).bytes ≡ encode_record r)
-check_left (Err n) r bytes e = absurd (omega (arith, (refusal_range n).0))
-check_left (Ok tt) r bytes e = go (eqb (length bytes) record_length) e
+check_left : (v : Checked) (bytes : List ℕ) → (said_of v bytes).number ≡ 0 → (r : Rule) × (v ≡ Ok r) × ((said_of v bytes).bytes ≡ encode_record r)
+check_left (Err n) bytes e = absurd (omega (arith, (refusal_range n).0))
+check_left (Ok r) bytes e = (r, refl, go (eqb (length bytes) record_length) e)
   where
     go : (t : Bool) → (if t then said 0 (encode_record r) else said 20 bytes).number ≡ 0
-        → (Ok tt ≡ Ok tt) × ((if t then said 0 (encode_record r) else said 20 bytes).bytes ≡ encode_record r)
-    go true e = (refl, refl)
+        → (if t then said 0 (encode_record r) else said 20 bytes).bytes ≡ encode_record r
+    go true e = refl
     go false e = absurd (omega arith)
 
-answers_sized : (v : Verdict) (q : Rule) → (answers v q).verdict ≡ Ok tt → Sized q → Sized (answers v q).rule
+answers_sized : (v : Verdict) (q r : Rule) → answers v q ≡ Ok r → Sized q → Sized r
 unfolding answers
-answers_sized (Ok tt) q e z = z
-answers_sized (Err n) q e z = absurd (let y : ◌≡◌ {A = ℕ} 0 1 = cc in omega arith)
+answers_sized (Ok tt) q r e z = subst Sized (let y : q ≡ r = cc in y) z
+answers_sized (Err n) q r e z = absurd (let y : ◌≡◌ {A = ℕ} 0 1 = cc in omega arith)
 
-checked_sized : (w : Raw) → (checked w).verdict ≡ Ok tt → Sized (checked w).rule
+checked_sized : (w : Raw) (r : Rule) → checked w ≡ Ok r → Sized r
 unfolding checked
-checked_sized w e = answers_sized (verdict w) (fill (given w)) e (fill_sized (given w) (given_sized w))
+checked_sized w r e = answers_sized (verdict w) (fill (given w)) r e (fill_sized (given w) (given_sized w))
 
-checked_good : (w : Raw) → (checked w).verdict ≡ Ok tt → yielded (checked w).rule ≡ true
-checked_good w e = (good_records (checked w).rule).1 (w, record { accepted = e; record_is = refl })
+checked_good : (w : Raw) (r : Rule) → checked w ≡ Ok r → yielded r ≡ true
+checked_good w r e = (good_records r).1 (w, e)
 
-module _ (w : Raw) (ok : (checked w).verdict ≡ Ok tt) (calls : List (Call ℕ)) where
-  abbrev r : Rule
-  r = (checked w).rule
-
+module _ (w : Raw) (r : Rule) (ok : checked w ≡ Ok r) (calls : List (Call ℕ)) where
   abbrev e : List ℕ
   e = encode_record r
 
@@ -232,13 +228,13 @@ module _ (w : Raw) (ok : (checked w).verdict ≡ Ok tt) (calls : List (Call ℕ)
 
   each : Each (call_of r) (KeepsTo (periods r)) (fresh_of r) calls
   unfolding fresh_of
-  each = (chain_lists (periods r) (lawful r (checked_good w ok)) (yielded r) (checked_good w ok) calls).0
+  each = (chain_lists (periods r) (lawful r (checked_good w r ok)) (yielded r) (checked_good w r ok) calls).0
 
   abbrev n : ℕ
   n = state_number (fresh_of r).state
 
   all_told : runs_tell e f n calls ≡ record { listed = (told_by r calls).listed; cause = state_number (told_by r calls).cursor.state }
-  all_told = told r (checked_sized w ok) (fresh_of r) calls each
+  all_told = told r (checked_sized w r ok) (fresh_of r) calls each
 
   listed_is : (runs_tell e f 0 calls).listed ≡ (told_by r calls).listed
   listed_is = (before_runs e f n calls).0 ∙ ap (λ (t : ToldC). t.listed) all_told
@@ -256,7 +252,7 @@ module _ (w : Raw) (ok : (checked w).verdict ≡ Ok tt) (calls : List (Call ℕ)
 
   lists : ListsC r (runs_tell e f 0 calls)
   lists =
-      let l = demand_three w ok calls in
+      let l = demand_three w r ok calls in
       record {
         rises = subst (RisesFrom 0) (sym listed_is) l.rises;
         only = λ u h. l.only u (subst (λ (ys : List ℕ). u ∈ ys) listed_is h);
@@ -271,21 +267,31 @@ module _ (w : Raw) (ok : (checked w).verdict ≡ Ok tt) (calls : List (Call ℕ)
 
   chain_listed : ChainListed w e f calls
   chain_listed = record {
-    taken = none_refused r (checked_sized w ok) (fresh_of r) calls each;
+    rule = r;
+    yields = ok;
+    taken = none_refused r (checked_sized w r ok) (fresh_of r) calls each;
     lists = lists;
-    never = λ h. never_by_interval r (checked_good w ok) calls
+    never = λ h. never_by_interval r (checked_good w r ok) calls
         (state_of_cause (told_by r calls).cursor.state Cause.Interval (sym (state_is (omega arith)) ∙ h));
   }
 
-pub fresh_of_checked : FreshOfChecked
+left : (w : Raw) (bytes : List ℕ) → (check_says w bytes).number ≡ 0 → (r : Rule) × (checked w ≡ Ok r) × ((check_says w bytes).bytes ≡ encode_record r)
+unfolding check_says
+left w bytes e = check_left (checked w) bytes e
+
+fresh_made : (w : Raw) (bytes cursor : List ℕ) (e : (check_says w bytes).number ≡ 0) → length cursor ≡ cursor_length
+    → fresh_says (check_says w bytes).bytes cursor ≡ said 0 (encode_cursor (fresh_of (left w bytes e).0))
 unfolding check_says fresh_says
-fresh_of_checked w bytes cursor e l =
-    let c = check_left (checked w).verdict (checked w).rule bytes e in
-    rw (c.1, record_read_back (checked w).rule (checked_sized w c.0), checked_good w c.0, eq-eqb (length cursor) cursor_length l)
+fresh_made w bytes cursor e l =
+    let c = left w bytes e in
+    rw (c.2, record_read_back c.0 (checked_sized w c.0 c.1), checked_good w c.0 c.1, eq-eqb (length cursor) cursor_length l)
+
+pub fresh_of_checked : FreshOfChecked
+fresh_of_checked w bytes cursor e l = let c = left w bytes e in (c.0, c.1, fresh_made w bytes cursor e l)
 
 pub chain_over_bytes : ChainOverBytes
 unfolding check_says
 chain_over_bytes w bytes cursor e l calls =
-    let c = check_left (checked w).verdict (checked w).rule bytes e in
-    subst (λ (b : List ℕ). ChainListed w (check_says w bytes).bytes b calls) (sym (ap (λ (s : Said). s.bytes) (fresh_of_checked w bytes cursor e l)))
-    (subst (λ (b : List ℕ). ChainListed w b (encode_cursor (fresh_of (checked w).rule)) calls) (sym c.1) (chain_listed w c.0 calls))
+    let c = left w bytes e in
+    subst (λ (b : List ℕ). ChainListed w (check_says w bytes).bytes b calls) (sym (ap (λ (s : Said). s.bytes) (fresh_made w bytes cursor e l)))
+    (subst (λ (b : List ℕ). ChainListed w b (encode_cursor (fresh_of c.0)) calls) (sym c.2) (chain_listed w c.0 c.1 calls))

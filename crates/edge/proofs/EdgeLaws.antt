@@ -1,6 +1,6 @@
 -- What the calls from C answer, case by case.
 -- Assumes nothing.
-use Rattle.std.specs.Prelude.{Option, Ok, Err}
+use Rattle.std.specs.Prelude.{Option, Some, None, Ok, Err}
 use Prim.Native.Nat.{ℕ}
 use mathlib.Core.Path.{◌≡◌, refl, sym, ap, ◌∙◌}
 use mathlib.Core.Bool.{Bool, true, false, ◌&&◌}
@@ -12,7 +12,6 @@ use Rattle.machine.specs.declared.Cursor.{Cursor}
 use Rattle.machine.specs.declared.Answer.{Answer}
 use Rattle.machine.specs.Calls.{beside}
 use Rattle.rule.specs.declared.rrule.Refusal.{Refusal}
-use Rattle.rule.specs.Refusals.{Verdict}
 use Rattle.rule.specs.Filling.{Checked}
 use Rattle.rule.specs.declared.rrule.Rule.{Rule}
 use Rattle.rule.specs.Raw.{RawLists, raw}
@@ -20,7 +19,7 @@ use Rattle.rule.specs.Refusals.{refusal_number}
 use Rattle.rule.specs.Filling.{checked}
 use Rattle.rule.specs.Records.{yielded}
 use Rattle.rule.specs.Run.{fresh_of, run_of}
-use Rattle.edge.specs.Layout.{Decoded.nothing, Decoded.holds, encode_record, record_in, is_record_bytes, decode_record}
+use Rattle.edge.specs.Layout.{encode_record, record_in, is_record_bytes, decode_record}
 use Rattle.edge.specs.Layout.{state_number, encode_cursor, cursor_in, is_cursor_bytes, decode_cursor}
 use Rattle.edge.specs.Edge.{said, said_of, check_says, fresh_says, shown, stop_number, is_refused, unreadable, run_says}
 
@@ -38,40 +37,40 @@ unfolding is_cursor_bytes
 cursor_size bytes e = eqb-true (length bytes) 22 (and_left (eqb (length bytes) 22) _ e)
 
 -- what bytes hold
-no_record : (bytes : List ℕ) → is_record_bytes bytes ≡ false → decode_record bytes ≡ nothing
+no_record : (bytes : List ℕ) → is_record_bytes bytes ≡ false → decode_record bytes ≡ None
 unfolding decode_record
 no_record bytes e = rw e
 
-pub record_held : (bytes : List ℕ) (r : Rule) → is_record_bytes bytes ≡ true → r ≡ record_in bytes → decode_record bytes ≡ holds r
+pub record_held : (bytes : List ℕ) (r : Rule) → is_record_bytes bytes ≡ true → r ≡ record_in bytes → decode_record bytes ≡ Some r
 unfolding decode_record
 record_held bytes r e f = rw (e, f)
 
-no_cursor : (bytes : List ℕ) → is_cursor_bytes bytes ≡ false → decode_cursor bytes ≡ nothing
+no_cursor : (bytes : List ℕ) → is_cursor_bytes bytes ≡ false → decode_cursor bytes ≡ None
 unfolding decode_cursor
 no_cursor bytes e = rw e
 
-pub cursor_held : (bytes : List ℕ) (c : Cursor) → is_cursor_bytes bytes ≡ true → c ≡ cursor_in bytes → decode_cursor bytes ≡ holds c
+pub cursor_held : (bytes : List ℕ) (c : Cursor) → is_cursor_bytes bytes ≡ true → c ≡ cursor_in bytes → decode_cursor bytes ≡ Some c
 unfolding decode_cursor
 cursor_held bytes c e f = rw (e, f)
 
 -- the check
 module _ (freq interval : ℕ) (count count' : Option ℕ) (until until' : Option ℕ) (wkst start : ℕ) (lists : RawLists) (v : Checked) (bytes : List ℕ)
     (ec : count ≡ count') (eu : until ≡ until') (ev : v ≡ checked (raw freq interval count until wkst start lists)) where
-  pub check_refused : (refusal : Refusal) (n : ℕ) → v.verdict ≡ Err refusal → n ≡ refusal_number refusal
+  pub check_refused : (refusal : Refusal) (n : ℕ) → v ≡ Err refusal → n ≡ refusal_number refusal
       → said n bytes ≡ check_says (raw freq interval count' until' wkst start lists) bytes
   unfolding check_says
   check_refused refusal n e f =
-      rw (← ec, ← eu, ← ev) (ap (λ (k : ℕ). said k bytes) f ∙ ap (λ (a : Verdict). said_of a v.rule bytes) (sym e))
+      rw (← ec, ← eu, ← ev) (ap (λ (k : ℕ). said k bytes) f ∙ ap (λ (a : Checked). said_of a bytes) (sym e))
 
-  pub check_length : (x : List ℕ) → v.verdict ≡ Ok tt → (length bytes ≡ 2564 → ⊥) → x ≡ bytes
+  pub check_length : (r : Rule) (x : List ℕ) → v ≡ Ok r → (length bytes ≡ 2564 → ⊥) → x ≡ bytes
       → said 20 x ≡ check_says (raw freq interval count' until' wkst start lists) bytes
   unfolding check_says
-  check_length x e h f = rw (← ec, ← eu, ← ev, e, ne_eqb (length bytes) 2564 h) (ap (λ (y : List ℕ). said 20 y) f)
+  check_length r x e h f = rw (← ec, ← eu, ← ev, e, ne_eqb (length bytes) 2564 h) (ap (λ (y : List ℕ). said 20 y) f)
 
-  pub check_accepted : (x : List ℕ) → v.verdict ≡ Ok tt → length bytes ≡ 2564 → x ≡ encode_record v.rule
+  pub check_accepted : (r : Rule) (x : List ℕ) → v ≡ Ok r → length bytes ≡ 2564 → x ≡ encode_record r
       → said 0 x ≡ check_says (raw freq interval count' until' wkst start lists) bytes
   unfolding check_says
-  check_accepted x e l f = rw (← ec, ← eu, ← ev, e, eq-eqb (length bytes) 2564 l) (ap (λ (y : List ℕ). said 0 y) f)
+  check_accepted r x e l f = rw (← ec, ← eu, ← ev, e, eq-eqb (length bytes) 2564 l) (ap (λ (y : List ℕ). said 0 y) f)
 
 module _ (rulebytes cursorbytes : List ℕ) where
   -- the fresh cursor
@@ -79,7 +78,7 @@ module _ (rulebytes cursorbytes : List ℕ) where
   unfolding fresh_says
   fresh_no_record e = rw (no_record rulebytes e)
 
-  module _ (r : Rule) (held : decode_record rulebytes ≡ holds r) where
+  module _ (r : Rule) (held : decode_record rulebytes ≡ Some r) where
     pub fresh_bad_record : yielded r ≡ false → said 20 cursorbytes ≡ fresh_says rulebytes cursorbytes
     unfolding fresh_says
     fresh_bad_record e = rw (held, e)
@@ -99,13 +98,13 @@ module _ (rulebytes cursorbytes : List ℕ) where
     unfolding run_says
     run_no_record e = rw (no_record rulebytes e)
 
-    module _ (r : Rule) (held : decode_record rulebytes ≡ holds r) where
+    module _ (r : Rule) (held : decode_record rulebytes ≡ Some r) where
       pub run_no_cursor : (n : ℕ) → is_cursor_bytes cursorbytes ≡ false → n ≡ unreadable (yielded r)
           → shown n cursorbytes buffer 0 0 0 ≡ run_says rulebytes cursorbytes buffer m
       unfolding run_says
       run_no_cursor n e f = rw (held, no_cursor cursorbytes e) (ap (λ (k : ℕ). shown k cursorbytes buffer 0 0 0) f)
 
-      module _ (c : Cursor) (from : decode_cursor cursorbytes ≡ holds c) (a : Answer) (left : List ℕ) (ran : beside a left ≡ run_of r c buffer m) where
+      module _ (c : Cursor) (from : decode_cursor cursorbytes ≡ Some c) (a : Answer) (left : List ℕ) (ran : beside a left ≡ run_of r c buffer m) where
         pub run_refused : (n : ℕ) → n ≡ stop_number a.stop → is_refused a.stop ≡ true
             → shown n cursorbytes left 0 0 0 ≡ run_says rulebytes cursorbytes buffer m
         unfolding run_says

@@ -16,7 +16,7 @@ use Rattle.rule.specs.declared.rrule.Frequency.{Frequency}
 use Rattle.rule.specs.declared.rrule.Rule.{Rule}
 use Rattle.rule.specs.Filling.{frequency_number, frequency}
 use Rattle.edge.specs.Bytes.{two_at, four_at, eight_at, two, four, eight, are_flags, flags_at, flag_byte, flag_bytes}
-use Rattle.edge.specs.Layout.{record_version, cursor_version, count_tag, count_number, until_tag, until_number, count_from, until_from, is_tagged}
+use Rattle.edge.specs.Layout.{record_version, cursor_version, tag_of, number_of, count_from, until_from, is_tagged}
 use Rattle.edge.specs.Layout.{head_bytes, day_bytes, time_bytes, encode_record, record_in, is_record_bytes, state_number, state_of, encode_cursor}
 use Rattle.edge.specs.Layout.{cursor_in, is_cursor_bytes}
 use Rattle.edge.proofs.ByteLaws.{sets_behind, sets_whole, length_two, length_four, length_eight}
@@ -34,7 +34,7 @@ unfolding head_bytes two four eight
 length_head freq interval count until wkst start = refl
 
 pub head_put : (freq : Frequency) (interval : ℕ) (count : Option ℕ) (until : Option ℕ) (wkst start f t n u m : ℕ) (l x1 x2 x3 x4 x5 x6 x7 x8 : List ℕ)
-    → f ≡ frequency_number freq → t ≡ count_tag count → n ≡ count_number count → u ≡ until_tag until → m ≡ until_number until
+    → f ≡ frequency_number freq → t ≡ tag_of count → n ≡ number_of count → u ≡ tag_of until → m ≡ number_of until
     → x1 ≡ set l 1 f → x2 ≡ sets x1 2 (two interval) → x3 ≡ set x2 4 t → x4 ≡ sets x3 5 (four n) → x5 ≡ set x4 9 u
     → x6 ≡ sets x5 10 (eight m) → x7 ≡ set x6 18 wkst → x8 ≡ sets x7 19 (eight start) → x8 ≡ sets l 1 (head_bytes freq interval count until wkst start)
 unfolding head_bytes

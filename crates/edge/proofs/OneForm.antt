@@ -1,6 +1,6 @@
 -- Bytes that hold a record, or a cursor, are those that are written of it.
 -- Assumes nothing.
-use Rattle.std.specs.Prelude.{if◌then◌else◌}
+use Rattle.std.specs.Prelude.{if◌then◌else◌, Some, None}
 use Prim.Native.Nat.{ℕ, ◌+◌, ◌≤◌, ◌<◌}
 use mathlib.Core.Path.{◌≡◌, refl, sym, ap, ◌∙◌}
 use mathlib.Core.Bool.{Bool, true, false, ◌&&◌, ◌||◌}
@@ -12,8 +12,8 @@ use borrow.Author.Tests.{leb-true, eqb-true}
 use Rattle.calendar.proofs.Table.{same_below}
 use Rattle.rule.specs.Filling.{frequency_number, frequency}
 use Rattle.edge.specs.Bytes.{two_at, four_at, eight_at, four, eight, are_flags, flags_at, flag_bytes}
-use Rattle.edge.specs.Layout.{Decoded.nothing, Decoded.holds, record_version, cursor_version, count_tag, count_number, until_tag, until_number}
-use Rattle.edge.specs.Layout.{count_from, until_from, is_tagged, head_bytes, day_bytes, time_bytes, encode_record, record_in, is_record_bytes}
+use Rattle.edge.specs.Layout.{record_version, cursor_version, tag_of, number_of}
+use Rattle.edge.specs.Layout.{option_of, count_from, until_from, is_tagged, head_bytes, day_bytes, time_bytes, encode_record, record_in, is_record_bytes}
 use Rattle.edge.specs.Layout.{decode_record, state_number, state_of, encode_cursor, cursor_in, is_cursor_bytes, decode_cursor}
 use Rattle.edge.specs.Claims.{AreBytes, RecordOneForm, CursorOneForm}
 use Rattle.edge.proofs.EdgeLaws.{record_size, cursor_size}
@@ -51,11 +51,8 @@ tag_cases P tag n h none given = go (eqb tag 0) refl
         let p : tag ≡ 1 = eqb-true tag 1 (sym (or-false (eqb tag 1)) ∙ g) in
         rw p (given n)
 
-count_again : (tag n : ℕ) → is_tagged tag n ≡ true → (count_tag (count_from tag n) ≡ tag) × (count_number (count_from tag n) ≡ n)
-count_again tag n h = tag_cases (λ t m. (count_tag (count_from t m) ≡ t) × (count_number (count_from t m) ≡ m)) tag n h (refl, refl) (λ m. (refl, refl))
-
-until_again : (tag n : ℕ) → is_tagged tag n ≡ true → (until_tag (until_from tag n) ≡ tag) × (until_number (until_from tag n) ≡ n)
-until_again tag n h = tag_cases (λ t m. (until_tag (until_from t m) ≡ t) × (until_number (until_from t m) ≡ m)) tag n h (refl, refl) (λ m. (refl, refl))
+option_again : (tag n : ℕ) → is_tagged tag n ≡ true → (tag_of (option_of tag n) ≡ tag) × (number_of (option_of tag n) ≡ n)
+option_again tag n h = tag_cases (λ t m. (tag_of (option_of t m) ≡ t) × (number_of (option_of t m) ≡ m)) tag n h (refl, refl) (λ m. (refl, refl))
 
 -- parts one behind the other, however they are put together
 regroup : (a b c d e f g h i j z : List ℕ) → z ≡ []
@@ -79,8 +76,8 @@ module _ (bytes : List ℕ) (are : AreBytes bytes) where
       ≡ each bytes 27 0
   unfolding head_bytes each
   head_again w f t u =
-      let c = count_again (at 4) (four_at bytes 5) t in
-      let v = until_again (at 9) (eight_at bytes 10) u in
+      let c = option_again (at 4) (four_at bytes 5) t in
+      let v = option_again (at 9) (eight_at bytes 10) u in
       λ d. sym w d ∷ (frequency_again (at 1) f d ∷ (two_at_lem bytes are 2 d
       ++ (c.0 d ∷ ((ap four c.1 ∙ four_bytes 5) d
       ++ (v.0 d ∷ ((ap eight v.1 ∙ eight_bytes 10) d
@@ -143,7 +140,7 @@ module _ (bytes : List ℕ) (are : AreBytes bytes) where
       λ d. sym (eqb-true (at 0) cursor_version s.0) d
       ∷ (state_again (at 1) (omega (arith, leb-true (at 1) 5 s.1)) d ∷ (eight_bytes 2 d ++ (four_bytes 10 d ++ eight_bytes 14 d)))
 
-held : {A : Type 0} (t : Bool) (v x : A) → (if t then holds v else nothing) ≡ holds x → (t ≡ true) × (v ≡ x)
+held : {A : Type 0} (t : Bool) (v x : A) → (if t then Some v else None) ≡ Some x → (t ≡ true) × (v ≡ x)
 held true v x e = (refl, (cc))
 held false v x e = absurd (let z : ◌≡◌ {A = ℕ} 0 1 = cc in omega arith)
 

@@ -15,7 +15,7 @@ use Rattle.rule.specs.declared.rrule.Rule.{Rule}
 use Rattle.rule.specs.Filling.{frequency_number, frequency}
 use Rattle.rule.specs.Records.{Sized}
 use Rattle.edge.specs.Bytes.{two_at, four_at, eight_at, are_flags, flags_at, flag_byte, flag_bytes}
-use Rattle.edge.specs.Layout.{Decoded.holds, record_version, cursor_version, count_tag, count_number, until_tag, until_number, count_from, until_from}
+use Rattle.edge.specs.Layout.{record_version, cursor_version, tag_of, number_of, option_of, count_from, until_from}
 use Rattle.edge.specs.Layout.{is_tagged, head_bytes, day_bytes, time_bytes, encode_record, is_record_bytes, decode_record, state_number, state_of}
 use Rattle.edge.specs.Layout.{encode_cursor}
 use Rattle.edge.specs.Claims.{RecordReadBack, CursorReadBack}
@@ -37,11 +37,11 @@ module _ (freq : Frequency) (interval : ℕ) (count : Option ℕ) (until : Optio
   unfolding head_bytes
   frequency_byte = refl
 
-  count_byte : get_or ((record_version ∷ head_bytes freq interval count until wkst start) ++ rest) 4 0 ≡ count_tag count
+  count_byte : get_or ((record_version ∷ head_bytes freq interval count until wkst start) ++ rest) 4 0 ≡ tag_of count
   unfolding head_bytes
   count_byte = refl
 
-  until_byte : get_or ((record_version ∷ head_bytes freq interval count until wkst start) ++ rest) 9 0 ≡ until_tag until
+  until_byte : get_or ((record_version ∷ head_bytes freq interval count until wkst start) ++ rest) 9 0 ≡ tag_of until
   unfolding head_bytes
   until_byte = refl
 
@@ -53,13 +53,13 @@ module _ (freq : Frequency) (interval : ℕ) (count : Option ℕ) (until : Optio
   unfolding head_bytes two_at
   interval_back = two_read interval
 
-  count_back : four_at ((record_version ∷ head_bytes freq interval count until wkst start) ++ rest) 5 ≡ count_number count
+  count_back : four_at ((record_version ∷ head_bytes freq interval count until wkst start) ++ rest) 5 ≡ number_of count
   unfolding head_bytes four_at
-  count_back = four_back (count_number count)
+  count_back = four_back (number_of count)
 
-  until_back : eight_at ((record_version ∷ head_bytes freq interval count until wkst start) ++ rest) 10 ≡ until_number until
+  until_back : eight_at ((record_version ∷ head_bytes freq interval count until wkst start) ++ rest) 10 ≡ number_of until
   unfolding head_bytes eight_at
-  until_back = let n = until_number until in (λ i. four_back (n % 4294967296) i + 4294967296 * four_back (n / 4294967296) i) ∙ eight_read n
+  until_back = let n = number_of until in (λ i. four_back (n % 4294967296) i + 4294967296 * four_back (n / 4294967296) i) ∙ eight_read n
 
   start_back : eight_at ((record_version ∷ head_bytes freq interval count until wkst start) ++ rest) 19 ≡ start
   unfolding head_bytes eight_at
@@ -89,21 +89,13 @@ frequency_known Frequency.Hourly = refl
 frequency_known Frequency.Minutely = refl
 frequency_known Frequency.Secondly = refl
 
-count_again : (c : Option ℕ) → count_from (count_tag c) (count_number c) ≡ c
-count_again None = refl
-count_again (Some n) = refl
+option_again : (o : Option ℕ) → option_of (tag_of o) (number_of o) ≡ o
+option_again None = refl
+option_again (Some n) = refl
 
-until_again : (u : Option ℕ) → until_from (until_tag u) (until_number u) ≡ u
-until_again None = refl
-until_again (Some t) = refl
-
-count_tagged : (c : Option ℕ) → is_tagged (count_tag c) (count_number c) ≡ true
-count_tagged None = refl
-count_tagged (Some n) = refl
-
-until_tagged : (u : Option ℕ) → is_tagged (until_tag u) (until_number u) ≡ true
-until_tagged None = refl
-until_tagged (Some t) = refl
+option_tagged : (o : Option ℕ) → is_tagged (tag_of o) (number_of o) ≡ true
+option_tagged None = refl
+option_tagged (Some n) = refl
 
 -- the next part goes to those that stand before
 pub record Split (e before rest : List ℕ) (i : ℕ) : Type 0 where
@@ -166,10 +158,10 @@ module _ (r : Rule) (sized : Sized r) where
   is_record =
       let t : is_tagged (get_or e 4 0) (four_at e 5) ≡ true =
       (λ d. is_tagged (count_byte r.freq r.interval r.count r.until r.wkst r.start tail d)
-      (count_back r.freq r.interval r.count r.until r.wkst r.start tail d)) ∙ count_tagged r.count in
+      (count_back r.freq r.interval r.count r.until r.wkst r.start tail d)) ∙ option_tagged r.count in
       let u : is_tagged (get_or e 9 0) (eight_at e 10) ≡ true =
       (λ d. is_tagged (until_byte r.freq r.interval r.count r.until r.wkst r.start tail d)
-      (until_back r.freq r.interval r.count r.until r.wkst r.start tail d)) ∙ until_tagged r.until in
+      (until_back r.freq r.interval r.count r.until r.wkst r.start tail d)) ∙ option_tagged r.until in
       let f : leb (get_or e 1 0) 6 ≡ true =
       ap (λ (k : ℕ). leb k 6) (frequency_byte r.freq r.interval r.count r.until r.wkst r.start tail) ∙ frequency_known r.freq in
       let v : eqb (get_or e 0 0) record_version ≡ true =
@@ -177,7 +169,7 @@ module _ (r : Rule) (sized : Sized r) where
       sym (record_judged e (four_at e 5) (eight_at e 10) true true true size refl refl (sym t) (sym u) (sym all_flags))
       ∙ (λ d. v d && (f d && (true && (true && true))))
 
-  read_back : decode_record e ≡ holds r
+  read_back : decode_record e ≡ Some r
   read_back =
       let p1 : Split e head _ 27 = record { is = in_order r head; size = head_size } in
       let p2 = next e head _ r.bymonth 27 12 sized.bymonth p1 in
@@ -195,10 +187,10 @@ module _ (r : Rule) (sized : Sized r) where
       (sym (interval_back r.freq r.interval r.count r.until r.wkst r.start tail))
       refl
       (sym ((λ d. count_from (count_byte r.freq r.interval r.count r.until r.wkst r.start tail d)
-      (count_back r.freq r.interval r.count r.until r.wkst r.start tail d)) ∙ count_again r.count))
+      (count_back r.freq r.interval r.count r.until r.wkst r.start tail d)) ∙ option_again r.count))
       refl
       (sym ((λ d. until_from (until_byte r.freq r.interval r.count r.until r.wkst r.start tail d)
-      (until_back r.freq r.interval r.count r.until r.wkst r.start tail d)) ∙ until_again r.until))
+      (until_back r.freq r.interval r.count r.until r.wkst r.start tail d)) ∙ option_again r.until))
       (sym (wkst_byte r.freq r.interval r.count r.until r.wkst r.start tail))
       (sym (start_back r.freq r.interval r.count r.until r.wkst r.start tail))
       (read e _ _ r.bymonth 27 12 sized.bymonth p1)

@@ -1,6 +1,6 @@
 -- Which numbers the calls say, and that a refused call leaves what was lent as it was.
 -- Assumes nothing.
-use Rattle.std.specs.Prelude.{if◌then◌else◌, Ok, Err}
+use Rattle.std.specs.Prelude.{if◌then◌else◌, Option, Some, None, Ok, Err}
 use Prim.Native.Nat.{ℕ, ◌≤◌, ◌<◌}
 use mathlib.Core.Path.{◌≡◌, refl, sym, ap}
 use mathlib.Core.Logic.{◌⊎◌, inl, inr, ⊎_elim}
@@ -18,14 +18,13 @@ use Rattle.machine.specs.Faults.{fault_number}
 use Rattle.machine.specs.Calls.{Answered}
 use Rattle.machine.proofs.Theorems.{refused_as_given}
 use Rattle.rule.specs.declared.rrule.Refusal.{Refusal}
-use Rattle.rule.specs.Refusals.{Verdict}
 use Rattle.rule.specs.declared.rrule.Rule.{Rule}
 use Rattle.rule.specs.Refusals.{refusal_number}
-use Rattle.rule.specs.Filling.{checked}
+use Rattle.rule.specs.Filling.{Checked, checked}
 use Rattle.rule.specs.Records.{yielded}
 use Rattle.rule.specs.Run.{periods, start_in, fresh_of, run_of}
 use Rattle.rule.proofs.Cursors.{fresh_runs}
-use Rattle.edge.specs.Layout.{Decoded, Decoded.nothing, Decoded.holds, record_length, record_version, encode_record, is_record_bytes, decode_record}
+use Rattle.edge.specs.Layout.{record_length, record_version, encode_record, is_record_bytes, decode_record}
 use Rattle.edge.specs.Layout.{cursor_length, cursor_version, encode_cursor, is_cursor_bytes, decode_cursor}
 use Rattle.edge.specs.Edge.{Said, said, said_of, check_says, fresh_from, fresh_says, Shown, shown, shows, refused_shows, unreadable, run_from, run_says}
 use Rattle.edge.specs.Claims.{CheckOfRefused, CheckOfAccepted, IsOther, OtherRecordRefused, OtherCursorRefused, KeptFromBeforeRefused, CheckNumbers}
@@ -51,25 +50,24 @@ refusal_range Refusal.Nought = (omega arith, omega arith)
 refusal_range Refusal.CountAndUntil = (omega arith, omega arith)
 refusal_range Refusal.ListMisplaced = (omega arith, omega arith)
 
-check_cases : (P : Said → Type 0) (v : Verdict) (r : Rule) (bytes : List ℕ) → ((n : Refusal) → P (said (refusal_number n) bytes)) → P (said 20 bytes)
-    → P (said 0 (encode_record r)) → P (said_of v r bytes)
-check_cases P (Err n) r bytes a b c = a n
-check_cases P (Ok tt) r bytes a b c = go (eqb (length bytes) record_length)
+check_cases : (P : Said → Type 0) (v : Checked) (bytes : List ℕ) → ((n : Refusal) → P (said (refusal_number n) bytes)) → P (said 20 bytes)
+    → ((r : Rule) → P (said 0 (encode_record r))) → P (said_of v bytes)
+check_cases P (Err n) bytes a b c = a n
+check_cases P (Ok r) bytes a b c = go (eqb (length bytes) record_length)
   where
     go : (t : Bool) → P (if t then said 0 (encode_record r) else said 20 bytes)
-    go true = c
+    go true = c r
     go false = b
 
 pub check_numbers : CheckNumbers
 unfolding check_says
 check_numbers w bytes =
-    check_cases (λ x. (x.number ≤ 12) ⊎ (x.number ≡ 20)) (checked w).verdict (checked w).rule bytes
-    (λ n. inl (refusal_range n).1) (inr refl) (inl (omega arith))
+    check_cases (λ x. (x.number ≤ 12) ⊎ (x.number ≡ 20)) (checked w) bytes (λ n. inl (refusal_range n).1) (inr refl) (λ r. inl (omega arith))
 
 pub check_refused_leaves : CheckRefusedLeaves
 unfolding check_says
 check_refused_leaves w bytes =
-    check_cases (λ x. 0 < x.number → x.bytes ≡ bytes) (checked w).verdict (checked w).rule bytes (λ n h. refl) (λ h. refl) (λ h. never 0 h)
+    check_cases (λ x. 0 < x.number → x.bytes ≡ bytes) (checked w) bytes (λ n h. refl) (λ h. refl) (λ r h. never 0 h)
 
 pub check_of_refused : CheckOfRefused
 unfolding check_says
@@ -77,13 +75,13 @@ check_of_refused w bytes n e = rw e
 
 pub check_of_accepted : CheckOfAccepted
 unfolding check_says
-check_of_accepted w bytes e = (λ l. rw (e, eq-eqb (length bytes) record_length l), λ l. rw (e, ne_eqb (length bytes) record_length l))
+check_of_accepted w bytes r e = (λ l. rw (e, eq-eqb (length bytes) record_length l), λ l. rw (e, ne_eqb (length bytes) record_length l))
 
 -- the fresh cursor
-fresh_cases : (P : Said → Type 0) (d : Decoded Rule) (bytes : List ℕ) → P (said 20 bytes) → P (said 21 bytes)
+fresh_cases : (P : Said → Type 0) (d : Option Rule) (bytes : List ℕ) → P (said 20 bytes) → P (said 21 bytes)
     → ((r : Rule) → yielded r ≡ true → P (said 0 (encode_cursor (fresh_of r)))) → P (fresh_from d bytes)
-fresh_cases P nothing bytes a b c = a
-fresh_cases P (holds r) bytes a b c = go (yielded r) (eqb (length bytes) cursor_length) refl
+fresh_cases P None bytes a b c = a
+fresh_cases P (Some r) bytes a b c = go (yielded r) (eqb (length bytes) cursor_length) refl
   where
     go : (s t : Bool) → yielded r ≡ s → P (if not s then said 20 bytes else if not t then said 21 bytes else said 0 (encode_cursor (fresh_of r)))
     go false t e = a
@@ -127,14 +125,14 @@ buffer_kept : (r : Rule) (c : Cursor) (buffer : List ℕ) (m : ℕ) (fault : Fau
 unfolding run_of
 buffer_kept r c buffer m fault e = ap (λ (a : Answered ℕ). a.buffer) (refused_as_given (periods r) (yielded r) c (record { buffer = buffer; budget = m }) fault e)
 
-run_good : (d : Decoded Rule) (k : Decoded Cursor) (cursor buffer : List ℕ) (m : ℕ) → Good cursor buffer (run_from d k cursor buffer m)
-run_good nothing k cursor buffer m = refused_good Fault.Record cursor buffer
-run_good (holds r) nothing cursor buffer m = go (yielded r)
+run_good : (d : Option Rule) (k : Option Cursor) (cursor buffer : List ℕ) (m : ℕ) → Good cursor buffer (run_from d k cursor buffer m)
+run_good None k cursor buffer m = refused_good Fault.Record cursor buffer
+run_good (Some r) None cursor buffer m = go (yielded r)
   where
     go : (good : Bool) → Good cursor buffer (refused_shows (unreadable good) cursor buffer)
     go true = refused_good Fault.Cursor cursor buffer
     go false = refused_good Fault.Record cursor buffer
-run_good (holds r) (holds c) cursor buffer m =
+run_good (Some r) (Some c) cursor buffer m =
     answered_good (run_of r c buffer m).answer.stop (run_of r c buffer m) cursor buffer refl (buffer_kept r c buffer m)
 
 pub run_numbers : RunNumbers

@@ -6,7 +6,7 @@ use Rattle.machine.specs.Given.{AtMost}
 use Rattle.machine.specs.Run.{Call}
 use Rattle.rule.specs.declared.rrule.Rule.{Rule}
 use Rattle.rule.specs.Raw.{Raw}
-use Rattle.rule.specs.Filling.{checked}
+use Rattle.rule.specs.Filling.{Yields}
 use Rattle.rule.specs.Satisfies.{Satisfies}
 use Rattle.rule.specs.Meaning.{RisesFrom}
 use Rattle.rule.specs.Run.{count_of, fresh_of}
@@ -70,16 +70,18 @@ pub record ListsC (r : Rule) (t : ToldC) : Type 0 where
   pub by_count : t.cause ≡ 1 → r.count ≡ Some (length t.listed)
   pub none_left : 1 < t.cause → (u : ℕ) → Satisfies r u → u ∈ t.listed
 
--- After an accepted check the fresh cursor is made, of bytes of its length.
+-- After an accepted check, which yields a record, the fresh cursor is made, of bytes of its length.
 abbrev pub FreshOfChecked : Type 0
 FreshOfChecked = (w : Raw) (bytes cursor : List ℕ) → (check_says w bytes).number ≡ 0 → length cursor ≡ cursor_length
-    → fresh_says (check_says w bytes).bytes cursor ≡ said 0 (encode_cursor (fresh_of (checked w).rule))
+    → (r : Rule) × Yields w r × (fresh_says (check_says w bytes).bytes cursor ≡ said 0 (encode_cursor (fresh_of r)))
 
 -- From an accepted check on: the record's bytes that it left, the fresh cursor's bytes, and any runs, of any buffers and budgets. None is refused,
--- together they list the rule, and cause 2, Interval, is never shown.
+-- together they list the record that the check yields, and cause 2, Interval, is never shown.
 pub record ChainListed (w : Raw) (rulebytes cursorbytes : List ℕ) (calls : List (Call ℕ)) : Type 0 where
+  pub rule : Rule
+  pub yields : Yields w rule
   pub taken : NoneRefused rulebytes cursorbytes calls
-  pub lists : ListsC (checked w).rule (runs_tell rulebytes cursorbytes 0 calls)
+  pub lists : ListsC rule (runs_tell rulebytes cursorbytes 0 calls)
   pub never : (runs_tell rulebytes cursorbytes 0 calls).cause ≡ 2 → ⊥
 
 abbrev pub ChainOverBytes : Type 0

@@ -1,17 +1,16 @@
 -- What follows from the layout and from what the calls say. The proofs are in proofs: ReadBack, OneForm and Said. What runs list is in Chains.
 -- Assumes nothing.
-use Rattle.std.specs.Prelude.{ℕ, ◌≤◌, ◌<◌, ◌≡◌, ◌⊎◌, true, List, length, get_or, Ok, Err}
+use Rattle.std.specs.Prelude.{ℕ, ◌≤◌, ◌<◌, ◌≡◌, ◌⊎◌, true, List, length, get_or, Some, Ok, Err}
 use Rattle.machine.specs.declared.State.{State}
 use Rattle.machine.specs.declared.Cursor.{Cursor}
 use Rattle.rule.specs.declared.rrule.Refusal.{Refusal}
-use Rattle.rule.specs.Refusals.{Verdict}
 use Rattle.rule.specs.declared.rrule.Rule.{Rule}
 use Rattle.rule.specs.Raw.{Raw}
 use Rattle.rule.specs.Refusals.{refusal_number}
 use Rattle.rule.specs.Filling.{checked}
 use Rattle.rule.specs.Records.{yielded, Sized}
 use Rattle.rule.specs.Run.{start_in, run_of}
-use Rattle.edge.specs.Layout.{Decoded.holds, record_length, record_version, encode_record, decode_record, cursor_length, cursor_version, encode_cursor}
+use Rattle.edge.specs.Layout.{record_length, record_version, encode_record, decode_record, cursor_length, cursor_version, encode_cursor}
 use Rattle.edge.specs.Layout.{decode_cursor}
 use Rattle.edge.specs.Edge.{said, check_says, fresh_says, shown, shows, run_says}
 
@@ -21,18 +20,18 @@ AreBytes bytes = (i : ℕ) → get_or bytes i 0 < 256
 
 -- A record whose sets have their lengths, as every value of the type Rule has, is read back from the bytes that are written of it.
 abbrev pub RecordReadBack : Type 0
-RecordReadBack = (r : Rule) → Sized r → decode_record (encode_record r) ≡ holds r
+RecordReadBack = (r : Rule) → Sized r → decode_record (encode_record r) ≡ Some r
 
 -- Bytes that hold a record are those that are written of it: a record has one form.
 abbrev pub RecordOneForm : Type 0
-RecordOneForm = (bytes : List ℕ) (r : Rule) → AreBytes bytes → decode_record bytes ≡ holds r → encode_record r ≡ bytes
+RecordOneForm = (bytes : List ℕ) (r : Rule) → AreBytes bytes → decode_record bytes ≡ Some r → encode_record r ≡ bytes
 
 -- the same of a cursor
 abbrev pub CursorReadBack : Type 0
-CursorReadBack = (c : Cursor) → decode_cursor (encode_cursor c) ≡ holds c
+CursorReadBack = (c : Cursor) → decode_cursor (encode_cursor c) ≡ Some c
 
 abbrev pub CursorOneForm : Type 0
-CursorOneForm = (bytes : List ℕ) (c : Cursor) → AreBytes bytes → decode_cursor bytes ≡ holds c → encode_cursor c ≡ bytes
+CursorOneForm = (bytes : List ℕ) (c : Cursor) → AreBytes bytes → decode_cursor bytes ≡ Some c → encode_cursor c ≡ bytes
 
 -- From bytes that were written, a run is the run of that record from that cursor. So what is proved of calls one after the other holds of calls from C.
 abbrev pub RunOfWritten : Type 0
@@ -42,11 +41,11 @@ RunOfWritten =
 -- The rule is judged first: one that is refused is answered with its own number, whatever bytes are lent; an accepted one with 20 where their length is
 -- another, and else with 0 and its record.
 abbrev pub CheckOfRefused : Type 0
-CheckOfRefused = (w : Raw) (bytes : List ℕ) (n : Refusal) → (checked w).verdict ≡ Err n → check_says w bytes ≡ said (refusal_number n) bytes
+CheckOfRefused = (w : Raw) (bytes : List ℕ) (n : Refusal) → checked w ≡ Err n → check_says w bytes ≡ said (refusal_number n) bytes
 
 abbrev pub CheckOfAccepted : Type 0
-CheckOfAccepted = (w : Raw) (bytes : List ℕ) → (checked w).verdict ≡ Ok tt
-    → (length bytes ≡ record_length → check_says w bytes ≡ said 0 (encode_record (checked w).rule))
+CheckOfAccepted = (w : Raw) (bytes : List ℕ) (r : Rule) → checked w ≡ Ok r
+    → (length bytes ≡ record_length → check_says w bytes ≡ said 0 (encode_record r))
     × ((length bytes ≡ record_length → ⊥) → check_says w bytes ≡ said 20 bytes)
 
 -- Bytes of another length or of another version are refused, whatever else they hold: a record's with 20, a cursor's with 21 where the record is good.
@@ -59,12 +58,12 @@ OtherRecordRefused = (rulebytes cursorbytes : List ℕ) → IsOther record_lengt
     × ((buffer : List ℕ) (m : ℕ) → run_says rulebytes cursorbytes buffer m ≡ shown 20 cursorbytes buffer 0 0 0)
 
 abbrev pub OtherCursorRefused : Type 0
-OtherCursorRefused = (rulebytes cursorbytes buffer : List ℕ) (m : ℕ) (r : Rule) → decode_record rulebytes ≡ holds r → yielded r ≡ true
+OtherCursorRefused = (rulebytes cursorbytes buffer : List ℕ) (m : ℕ) (r : Rule) → decode_record rulebytes ≡ Some r → yielded r ≡ true
     → IsOther cursor_length cursor_version cursorbytes → run_says rulebytes cursorbytes buffer m ≡ shown 21 cursorbytes buffer 0 0 0
 
 -- A cursor kept from before request 2026-02 has the version 1: since a place in week period 0 means another instant now, it is refused.
 abbrev pub KeptFromBeforeRefused : Type 0
-KeptFromBeforeRefused = (rulebytes cursorbytes buffer : List ℕ) (m : ℕ) (r : Rule) → decode_record rulebytes ≡ holds r → yielded r ≡ true
+KeptFromBeforeRefused = (rulebytes cursorbytes buffer : List ℕ) (m : ℕ) (r : Rule) → decode_record rulebytes ≡ Some r → yielded r ≡ true
     → get_or cursorbytes 0 0 ≡ 1 → run_says rulebytes cursorbytes buffer m ≡ shown 21 cursorbytes buffer 0 0 0
 
 -- Only the numbers of the table are said, and a call that says one of a refusal leaves what was lent as it was.

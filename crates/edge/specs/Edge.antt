@@ -1,19 +1,18 @@
 -- What C is answered, and what it finds in the bytes that it lent. A refused call leaves every byte and every slot as it was.
 -- Assumes nothing.
-use Rattle.std.specs.Prelude.{ℕ, Bool, true, false, not, List, eqb, length, if◌then◌else◌, Ok, Err}
+use Rattle.std.specs.Prelude.{ℕ, Bool, true, false, not, List, eqb, length, if◌then◌else◌, Option, Some, None, Ok, Err}
 use Rattle.machine.specs.declared.Stop.{Stop}
 use Rattle.machine.specs.declared.Cursor.{Cursor}
 use Rattle.machine.specs.declared.Answer.{Answer}
 use Rattle.machine.specs.Faults.{fault_number}
 use Rattle.machine.specs.Calls.{Answered}
-use Rattle.rule.specs.Refusals.{Verdict}
 use Rattle.rule.specs.declared.rrule.Rule.{Rule}
 use Rattle.rule.specs.Raw.{Raw}
 use Rattle.rule.specs.Refusals.{refusal_number}
-use Rattle.rule.specs.Filling.{checked}
+use Rattle.rule.specs.Filling.{Checked, checked}
 use Rattle.rule.specs.Records.{yielded}
 use Rattle.rule.specs.Run.{fresh_of, run_of}
-use Rattle.edge.specs.Layout.{Decoded, Decoded.nothing, Decoded.holds, record_length, encode_record, decode_record, cursor_length, state_number}
+use Rattle.edge.specs.Layout.{record_length, encode_record, decode_record, cursor_length, state_number}
 use Rattle.edge.specs.Layout.{encode_cursor, decode_cursor}
 
 -- a call's number, with the bytes that it leaves
@@ -26,17 +25,17 @@ said number bytes = record { number = number; bytes = bytes }
 
 -- The check: the number of the refusal; where the rule is accepted, 20 if the bytes that the record is to be written to have another length; else 0 and
 -- the record's bytes.
-abbrev pub said_of : Verdict → Rule → List ℕ → Said
-said_of (Err refusal) r bytes = said (refusal_number refusal) bytes
-said_of (Ok tt) r bytes = if eqb (length bytes) record_length then said 0 (encode_record r) else said 20 bytes
+abbrev pub said_of : Checked → List ℕ → Said
+said_of (Err refusal) bytes = said (refusal_number refusal) bytes
+said_of (Ok r) bytes = if eqb (length bytes) record_length then said 0 (encode_record r) else said 20 bytes
 
 unfoldable pub check_says : Raw → List ℕ → Said
-check_says w bytes = said_of (checked w).verdict (checked w).rule bytes
+check_says w bytes = said_of (checked w) bytes
 
 -- The fresh cursor: 20 where the record's bytes hold none that an accepted check yields, then 21 where the cursor's bytes have another length.
-abbrev pub fresh_from : Decoded Rule → List ℕ → Said
-fresh_from nothing bytes = said 20 bytes
-fresh_from (holds r) bytes =
+abbrev pub fresh_from : Option Rule → List ℕ → Said
+fresh_from None bytes = said 20 bytes
+fresh_from (Some r) bytes =
     if not (yielded r) then said 20 bytes
     else if not (eqb (length bytes) cursor_length) then said 21 bytes
     else said 0 (encode_cursor (fresh_of r))
@@ -87,10 +86,10 @@ shows a cursor =
 abbrev pub unreadable : Bool → ℕ
 unreadable good = if good then 21 else 20
 
-abbrev pub run_from : Decoded Rule → Decoded Cursor → (cursor buffer : List ℕ) → ℕ → Shown
-run_from nothing c cursor buffer m = refused_shows 20 cursor buffer
-run_from (holds r) nothing cursor buffer m = refused_shows (unreadable (yielded r)) cursor buffer
-run_from (holds r) (holds c) cursor buffer m = shows (run_of r c buffer m) cursor
+abbrev pub run_from : Option Rule → Option Cursor → (cursor buffer : List ℕ) → ℕ → Shown
+run_from None c cursor buffer m = refused_shows 20 cursor buffer
+run_from (Some r) None cursor buffer m = refused_shows (unreadable (yielded r)) cursor buffer
+run_from (Some r) (Some c) cursor buffer m = shows (run_of r c buffer m) cursor
 
 unfoldable pub run_says : (rulebytes cursorbytes buffer : List ℕ) → ℕ → Shown
 run_says rulebytes cursorbytes buffer m = run_from (decode_record rulebytes) (decode_cursor cursorbytes) cursorbytes buffer m

@@ -9,34 +9,24 @@ use Rattle.rule.specs.declared.rrule.Rule.{Rule}
 use Rattle.rule.specs.Filling.{frequency_number, frequency}
 use Rattle.edge.specs.Bytes.{two_at, four_at, eight_at, two, four, eight, are_flags, flags_at, flag_bytes}
 
--- What bytes may be: nothing that is known, or a value.
-pub data Decoded (A : Type 0) : Type 0 where
-  nothing : Decoded A
-  holds : A → Decoded A
-
 -- COUNT and UNTIL are a tag and a number: 0 and 0 where absent, 1 and the number where given.
-abbrev pub count_tag : Option ℕ → ℕ
-count_tag None = 0
-count_tag (Some n) = 1
+abbrev pub tag_of : Option ℕ → ℕ
+tag_of None = 0
+tag_of (Some n) = 1
 
-abbrev pub count_number : Option ℕ → ℕ
-count_number None = 0
-count_number (Some n) = n
+abbrev pub number_of : Option ℕ → ℕ
+number_of None = 0
+number_of (Some n) = n
 
-abbrev pub until_tag : Option ℕ → ℕ
-until_tag None = 0
-until_tag (Some t) = 1
+-- Read back: a tag of 0 is absent, any other is given. The contract of yomaveludge_check has a name for each of the two.
+abbrev pub option_of : {A : Type 0} → ℕ → A → Option A
+option_of tag x = if eqb tag 0 then None else Some x
 
-abbrev pub until_number : Option ℕ → ℕ
-until_number None = 0
-until_number (Some t) = t
-
--- read back: a tag of 0 is absent, any other is given
 abbrev pub count_from : (tag number : ℕ) → Option ℕ
-count_from tag n = if eqb tag 0 then None else Some n
+count_from tag n = option_of tag n
 
 abbrev pub until_from : (tag number : ℕ) → Option ℕ
-until_from tag t = if eqb tag 0 then None else Some t
+until_from tag t = option_of tag t
 
 -- a tag and a number that are written of something: no tag but 0 and 1, and no number behind 0
 abbrev pub is_tagged : (tag number : ℕ) → Bool
@@ -55,8 +45,8 @@ unfoldable pub head_bytes : Frequency → ℕ → Option ℕ → Option ℕ → 
 unfolding two four eight
 head_bytes freq interval count until wkst start =
     frequency_number freq ∷ (two interval
-    ++ (count_tag count ∷ (four (count_number count)
-    ++ (until_tag until ∷ (eight (until_number until)
+    ++ (tag_of count ∷ (four (number_of count)
+    ++ (tag_of until ∷ (eight (number_of until)
     ++ (wkst ∷ eight start))))))
 
 -- Then one byte for each flag of each set: BYMONTH from 27 on, BYMONTHDAY from 39, BYYEARDAY from 101, BYWEEKNO from 833, BYDAY from 939, BYHOUR from
@@ -105,8 +95,9 @@ is_record_bytes bytes =
     && (is_tagged (get_or bytes 9 0) (eight_at bytes 10)
     && are_flags (drop 27 bytes)))))
 
-unfoldable pub decode_record : List ℕ → Decoded Rule
-decode_record bytes = if is_record_bytes bytes then holds (record_in bytes) else nothing
+-- what bytes hold: a record, or none
+unfoldable pub decode_record : List ℕ → Option Rule
+decode_record bytes = if is_record_bytes bytes then Some (record_in bytes) else None
 
 -- A cursor has 22 bytes: the version (0), its state (1), k (2 to 9), the place (10 to 13), the number handed out (14 to 21). A state is 0 where running,
 -- else the number of its cause.
@@ -150,5 +141,5 @@ cursor_in bytes =
 unfoldable pub is_cursor_bytes : List ℕ → Bool
 is_cursor_bytes bytes = eqb (length bytes) cursor_length && (eqb (get_or bytes 0 0) cursor_version && leb (get_or bytes 1 0) 5)
 
-unfoldable pub decode_cursor : List ℕ → Decoded Cursor
-decode_cursor bytes = if is_cursor_bytes bytes then holds (cursor_in bytes) else nothing
+unfoldable pub decode_cursor : List ℕ → Option Cursor
+decode_cursor bytes = if is_cursor_bytes bytes then Some (cursor_in bytes) else None
