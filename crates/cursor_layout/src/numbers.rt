@@ -1,5 +1,6 @@
 // Numbers as bytes, the lowest byte first. Each width is made of two of the one below, so that no proof has more than one divisor; a wider number's place
 // has a narrower type, so that no sum of places wraps. What is behind the end reads as 0, and nothing is written there.
+// One generic function is no plainer: it would need a trait that names the half, the place and the divisor of each width.
 ghost use Rattle.std.specs.Prelude.{◌≡◌, ◌<◌, get_or, set};
 ghost use Rattle.std.proofs.lemmas.List.Edits.{sets};
 ghost use Rattle.edge.specs.Bytes.{two_at, four_at, eight_at, two, four, eight};
@@ -7,20 +8,14 @@ ghost use Rattle.edge.specs.Bytes.{two_at, four_at, eight_at, two, four, eight};
 fn byte_at(bytes: &[u8], at: usize) -> u8
     ensures { result ≡ get_or bytes.now at 0 }
 {
-    if at < bytes.len() { bytes[at] } else { 0 }
-}
-
-fn wide(byte: u8) -> u32
-    ensures { (result ≡ byte) × (result < 256) }
-{
-    byte as u32
+    bytes.get(at).copied().unwrap_or(0)
 }
 
 pub fn read_2(bytes: &[u8], at: u32) -> u32
     ensures { (result ≡ two_at bytes.now at) × (result < 65536) }
 {
     let first = at as usize;
-    wide(byte_at(bytes, first)) + 256 * wide(byte_at(bytes, first + 1))
+    (byte_at(bytes, first) as u32) + 256 * (byte_at(bytes, first + 1) as u32)
 }
 
 pub fn read_4(bytes: &[u8], at: u16) -> u64

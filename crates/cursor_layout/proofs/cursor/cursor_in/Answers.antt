@@ -12,6 +12,5 @@ returns-then-bytes-ne-CURSOR_LENGTH c = ap cursor_in (sym (of_other_length 22 _ 
 
 pub returns : goal.returns
 returns c =
-    let state = c in
-    cursor_read _ _ _ _ _ state.state_of-state.ensures c.read_8-k.ensures c.read_4-place.ensures.0 c.read_8-number.ensures
-    ∙ ap cursor_in (sym (of_length_lem 22 _ state.if-bytes-ne-CURSOR_LENGTH.false))
+    cursor_read _ _ _ _ _ c.state_of.ensures c.read_8.ensures c.read_4.ensures.0 c.read_8-2.ensures
+    ∙ ap cursor_in (sym (of_length_lem 22 _ c.if-bytes-ne-CURSOR_LENGTH.false))

@@ -14,13 +14,6 @@ returns-then-bytes-ne-CURSOR_LENGTH c = put_nothing 22 _ _ c.if-bytes-ne-CURSOR_
 
 pub returns : goal.returns
 returns c =
-    let number = c in
-    let place = number in
-    let k = place in
-    let state = k in
-    let version = state in
-    let tested = version in
-    let a = tested.args in
-    ap (λ (x : List ℕ). put true x) (cursor_put a.cursor _ a.bytes.now _ _ _ _ _ tested.if-bytes-ne-CURSOR_LENGTH.false state.state_number.ensures
-    version.put_1.ensures state.put_1-2.ensures k.put_8.ensures place.put_4.ensures number.put_8-2.ensures)
-    ∙ put_whole 22 _ _ tested.if-bytes-ne-CURSOR_LENGTH.false
+    ap (λ (x : List ℕ). put true x) (cursor_put c.args.cursor _ c.args.bytes.now _ _ _ _ _ c.if-bytes-ne-CURSOR_LENGTH.false c.state_number.ensures
+    c.put_1.ensures c.put_1-2.ensures c.put_8.ensures c.put_4.ensures c.put_8-2.ensures)
+    ∙ put_whole 22 _ _ c.if-bytes-ne-CURSOR_LENGTH.false

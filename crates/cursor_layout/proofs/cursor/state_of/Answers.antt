@@ -1,49 +1,29 @@
 -- `cursor_layout::cursor::state_of` meets its contract.
 -- Assumes nothing.
-use borrow.Author.Tests.{eq-eqb, ne_eqb}
+use Rattle.std.proofs.Common.{arith}
 use Rattle.edge.specs.Layout.{state_of}
 use Rattle.cursor_layout.proofs.cursor.state_of.Goals as goal
 
-pub returns-then-number-eq0 : goal.returns-then-number-eq0
+pub returns-in-0 : goal.returns-in-0
 unfolding state_of
-returns-then-number-eq0 c = rw (eq-eqb _ _ c.if-number-eq0.true)
+returns-in-0 c = rw c.in-0.is
 
-pub returns-then-number-eq1 : goal.returns-then-number-eq1
+pub returns-in-1 : goal.returns-in-1
 unfolding state_of
-returns-then-number-eq1 c = rw (ne_eqb _ _ c.if-number-eq0.false, eq-eqb _ _ c.if-number-eq1.true)
+returns-in-1 c = rw c.in-1.is
 
-pub returns-then-number-eq2 : goal.returns-then-number-eq2
+pub returns-in-2 : goal.returns-in-2
 unfolding state_of
-returns-then-number-eq2 c = rw (ne_eqb _ _ c.if-number-eq0.false, ne_eqb _ _ c.if-number-eq1.false, eq-eqb _ _ c.if-number-eq2.true)
+returns-in-2 c = rw c.in-2.is
 
-pub returns-then-number-eq3 : goal.returns-then-number-eq3
+pub returns-in-3 : goal.returns-in-3
 unfolding state_of
-returns-then-number-eq3 c =
-    rw (
-      ne_eqb _ _ c.if-number-eq0.false,
-      ne_eqb _ _ c.if-number-eq1.false,
-      ne_eqb _ _ c.if-number-eq2.false,
-      eq-eqb _ _ c.if-number-eq3.true,
-    )
+returns-in-3 c = rw c.in-3.is
 
-pub returns-then-number-eq4 : goal.returns-then-number-eq4
+pub returns-in-4 : goal.returns-in-4
 unfolding state_of
-returns-then-number-eq4 c =
-    rw (
-      ne_eqb _ _ c.if-number-eq0.false,
-      ne_eqb _ _ c.if-number-eq1.false,
-      ne_eqb _ _ c.if-number-eq2.false,
-      ne_eqb _ _ c.if-number-eq3.false,
-      eq-eqb _ _ c.if-number-eq4.true,
-    )
+returns-in-4 c = rw c.in-4.is
 
-pub returns : goal.returns
+pub returns-in_default : goal.returns-in_default
 unfolding state_of
-returns c =
-    rw (
-      ne_eqb _ _ c.if-number-eq0.false,
-      ne_eqb _ _ c.if-number-eq1.false,
-      ne_eqb _ _ c.if-number-eq2.false,
-      ne_eqb _ _ c.if-number-eq3.false,
-      ne_eqb _ _ c.if-number-eq4.false,
-    )
+returns-in_default c = grind arith
