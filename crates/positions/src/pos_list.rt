@@ -1,41 +1,21 @@
 // Which of a period's n candidates BYSETPOS keeps, by their places alone. A place counts from 0, a position from 1.
-ghost use Rattle.std.specs.Prelude.{◌≡◌, ◌+◌, ◌-◌, max, ◌≤◌, ◌<◌, length, pos, neg_ℤ};
+ghost use Rattle.std.specs.Prelude.{◌≡◌, ◌+◌, ◌-◌, ◌≤◌, ◌<◌, length};
 ghost use Rattle.std.proofs.lemmas.List.Edits.{sets};
-ghost use Rattle.rule.specs.Lists.{positions, is_in};
 ghost use Rattle.rule.specs.Candidates.{chooses};
 ghost use Rattle.positions.specs.Places.{kept_places, kept_within, over};
 
-// Whether a position is in BYSETPOS, counted from the first candidate.
-fn has_forward(bysetpos: &[bool; 732], position: u32) -> bool
-    requires { 1 ≤ position }
-    ensures { result ≡ is_in positions bysetpos.now (pos position) }
-{
-    if 366 < position {
-        return false;
-    }
-    bysetpos[365 + (position as usize)]
-}
-
-// Whether a position is in BYSETPOS, counted from the last candidate.
-fn has_from_end(bysetpos: &[bool; 732], position: u32) -> bool
-    requires { 1 ≤ position }
-    ensures { result ≡ is_in positions bysetpos.now (neg_ℤ (pos position)) }
-{
-    if 366 < position {
-        return false;
-    }
-    bysetpos[366 - (position as usize)]
-}
-
-// Whether BYSETPOS chooses a place of n.
+// Whether BYSETPOS chooses a place of n: forward, position p has slot 365 + p; from the end, it has slot 366 - p.
 fn is_chosen(bysetpos: &[bool; 732], n: u32, place: u32) -> bool
     requires { place < n }
     ensures { result ≡ chooses bysetpos.now n place }
 {
-    has_forward(bysetpos, place + 1) | has_from_end(bysetpos, n - place)
+    let behind = n - place;
+    let forward = place < 366 && bysetpos[366 + (place as usize)];
+    let from_end = behind <= 366 && bysetpos[366 - (behind as usize)];
+    forward | from_end
 }
 
-// Writes the chosen places of from..to, of n in all, from slot count on; how many slots are written then.
+// Writes the chosen places of from..to, of n in all, from slot count on; how many slots are written then. Slots with a count beside them: no heap.
 fn put_chosen(
     bysetpos: &[bool; 732],
     n: u32,
@@ -59,14 +39,6 @@ fn put_chosen(
     written
 }
 
-// Of 366 or more candidates, the first place from 366 on that a position from the end can reach.
-fn last_stretch(n: u32) -> u32
-    requires { 366 ≤ n }
-    ensures { result ≡ max 366 (n - 366) }
-{
-    if n < 732 { 366 } else { n - 366 }
-}
-
 // The places of the kept candidates of n, rising, from the buffer's first slot on; how many there are. Behind place 365 only positions from
 // the end choose, and they reach back no further than 366 places, so that at most 732 places are looked at.
 pub fn build_pos_list(bysetpos: &[bool; 732], n: u32, places: &mut [u32; 732]) -> usize
@@ -77,5 +49,5 @@ pub fn build_pos_list(bysetpos: &[bool; 732], n: u32, places: &mut [u32; 732]) -
         return put_chosen(bysetpos, n, 0, n, 0, places);
     }
     let count = put_chosen(bysetpos, n, 0, 366, 0, places);
-    put_chosen(bysetpos, n, last_stretch(n), n, count, places)
+    put_chosen(bysetpos, n, (n - 366).max(366), n, count, places)
 }

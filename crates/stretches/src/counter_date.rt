@@ -1,8 +1,8 @@
 // The days of a period, by its number.
-ghost use Rattle.std.specs.Prelude.{◌≡◌, ◌≤◌, min};
+ghost use Rattle.std.specs.Prelude.{◌≡◌, ◌≤◌};
 ghost use Rattle.stretches.specs.Stretches.{first_of_month, days_in};
 
-use calendar::utils::days_before_year;
+use calendar::utils::{RANGE_END, days_before_year};
 use dates::utils::day_of_date;
 use rule::rrule::Frequency;
 
@@ -12,9 +12,6 @@ pub struct Days {
     pub from: u64,
     pub to: u64,
 }
-
-// The day after 9999.
-const RANGE_END: u64 = 3652059;
 
 // What stands for the days of a period after 9999.
 const NO_DAYS: Days = Days { from: 0, to: 0 };
@@ -27,10 +24,9 @@ pub fn days_of(freq: Frequency, number: u64) -> Days
         Frequency::Yearly => days_of_year(number),
         Frequency::Monthly => days_of_month(number),
         Frequency::Weekly => days_of_week(number),
-        Frequency::Daily => day_alone(number),
-        Frequency::Hourly => day_alone(number),
-        Frequency::Minutely => day_alone(number),
-        Frequency::Secondly => day_alone(number),
+        Frequency::Daily | Frequency::Hourly | Frequency::Minutely | Frequency::Secondly => {
+            day_alone(number)
+        }
     }
 }
 
@@ -78,7 +74,7 @@ fn days_of_week(number: u64) -> Days
     }
     Days {
         from: number,
-        to: earlier(number + 7, RANGE_END),
+        to: (number + 7).min(RANGE_END),
     }
 }
 
@@ -93,11 +89,4 @@ fn day_alone(number: u64) -> Days
         from: number,
         to: number + 1,
     }
-}
-
-// The earlier of two days.
-fn earlier(a: u64, b: u64) -> u64
-    ensures { result ≡ min a b }
-{
-    if a < b { a } else { b }
 }

@@ -9,10 +9,7 @@ pub fn unit_of(freq: Frequency) -> u64
     ensures { result ≡ 86400 / ticks freq }
 {
     match freq {
-        Frequency::Yearly => 86400,
-        Frequency::Monthly => 86400,
-        Frequency::Weekly => 86400,
-        Frequency::Daily => 86400,
+        Frequency::Yearly | Frequency::Monthly | Frequency::Weekly | Frequency::Daily => 86400,
         Frequency::Hourly => 3600,
         Frequency::Minutely => 60,
         Frequency::Secondly => 1,

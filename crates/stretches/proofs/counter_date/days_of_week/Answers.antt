@@ -14,4 +14,4 @@ returns-then-number-ge-RANGE_END c = days_past Frequency.Weekly c.args.number (o
 pub returns : goal.returns
 unfolding days_at limit_of
 returns c =
-    rw c.earlier.ensures (days_below Frequency.Weekly c.args.number (omega arith))
+    rw c.min.ensures (days_below Frequency.Weekly c.args.number (omega arith))
