@@ -1,7 +1,7 @@
 -- `plans::plan::plan_of` meets its contract.
 -- Assumes nothing.
 use denote.Enum.Bare.{sameb}
-use Rattle.std.proofs.Common.{◌≡◌, refl, Bool, true, false, not}
+use Rattle.std.proofs.Common.{◌≡◌, refl, ◌∙◌, Bool, true, false, not}
 use Rattle.rule.specs.contracts.rrule.Frequency.{the_type}
 use Rattle.rule.specs.declared.rrule.Frequency.{Frequency}
 use Rattle.rule.specs.Filling.{same}
@@ -28,14 +28,15 @@ is_yearly Frequency.Secondly = refl
 pub returns : goal.returns
 unfolding plan_in plan_from shape_of counts_in_year asked_of clock_in sets_in
 returns c =
+    let r = c.args.rule.now in
+    let yearly : c.eq.result ≡ same r.freq Frequency.Yearly = c.eq.ensures ∙ is_yearly r.freq in
     rw (
-      c.second_in.ensures,
-      c.until_in.ensures,
-      c.get_timeset-times.ensures,
-      c.get_clock-clock.ensures,
-      c.asked_lists-asked.ensures,
-      c.eq.ensures,
-      is_yearly c.args.rule.now.freq,
-      c.is_empty.ensures,
-      not_not (is_empty c.args.rule.now.bymonth),
+        c.second_in.ensures,
+        c.until_in.ensures,
+        c.get_timeset-times.ensures,
+        c.get_clock-clock.ensures,
+        c.asked_lists-asked.ensures,
+        yearly,
+        c.is_empty.ensures,
+        not_not (is_empty r.bymonth),
     )
