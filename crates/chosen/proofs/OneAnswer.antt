@@ -8,8 +8,8 @@ use Rattle.crossing.proofs.ReadBack.{one_walked}
 use Rattle.chosen.proofs.rrule_iter.walk_places.Kinds as walk-places-kinds
 use Rattle.chosen.proofs.rrule_iter.walk_places.Reads as walk-places
 
--- the buffer is the eighth parameter
-pub walk_places_has_one : DeterminesBuffer 4 walk-places-kinds.ps walk-places-kinds.r (List ℕ) (λ κs e. e.1.1.1.1.1.1.1.0.now) walk-places.Post
+-- the buffer is the sixth parameter
+pub walk_places_has_one : DeterminesBuffer 4 walk-places-kinds.ps walk-places-kinds.r (List ℕ) (λ κs e. e.1.1.1.1.1.0.now) walk-places.Post
 walk_places_has_one κs a x y e f p q = one_walked x y _ _ _ (one_answer p.0 q.0) p.1 q.1
 
 -- and it asks nothing of its callers

@@ -4,26 +4,24 @@ ghost use Rattle.walks.specs.Walks.{walked_by};
 ghost use Rattle.chosen.specs.Chosen.{places_walk};
 
 use passing::rrule_iter::{is_late, is_reached, is_ready};
-use walks::rrule_iter::{Bounds, Frame, Held, Walked, Why, is_framed, second_at};
+use walks::rrule_iter::{Bounds, Candidates, Held, Walked, Why, is_framed};
 
 // The walk over the kept candidates, where positions choose: their numbers stand in places. No period keeps more than these.
 pub fn walk_places(
-    frame: Frame,
+    candidates: &Candidates,
     bounds: Bounds,
     held: Held,
     kept: usize,
     places: &[u32; 732],
-    days: &[u16; 373],
-    lists: &[u8; 144],
     buffer: &mut [u64],
 ) -> Walked
     ensures walked { walked_by result buffer.new
-        ≡ places_walk frame bounds held kept places.now days.now lists.now buffer.old }
+        ≡ places_walk candidates.now.frame bounds held kept places.now candidates.now.days.now candidates.now.lists.now buffer.old }
     ensures state { result.held.cursor.state ≡ held.cursor.state }
 {
     let mut why = Why::Through;
     let mut at = held;
-    if !((kept <= 732) & (is_framed(frame) & is_ready(bounds, held, buffer.len()))) {
+    if !((kept <= 732) & (is_framed(candidates.frame) & is_ready(bounds, held, buffer.len()))) {
         return Walked { why, held: at };
     }
     for i in held.cursor.place as usize..kept {
@@ -32,7 +30,7 @@ pub fn walk_places(
             why = Why::Full;
             break;
         }
-        let second = second_at(frame, days, lists, places[i]);
+        let second = candidates.second_at(places[i]);
         if is_late(bounds, second) {
             why = Why::Until;
             break;

@@ -5,21 +5,16 @@ ghost use Rattle.crossing.specs.Crossing.{days_walk};
 
 use passing::rrule_iter::{is_late, is_reached, is_ready};
 use times::iterinfo::quotient;
-use walks::rrule_iter::{Bounds, Frame, Held, Walked, Why, is_framed, second_on};
+use walks::rrule_iter::{Bounds, Candidates, Held, Walked, Why, is_framed};
 
 // The walk over the days and their times, from the place on: each candidate is passed, and handed out if it is not before the start. A full
 // buffer, UNTIL and COUNT leave it from inside. Where a sum could wrap, it does nothing.
-pub fn walk_days(
-    frame: Frame,
-    bounds: Bounds,
-    held: Held,
-    days: &[u16; 373],
-    lists: &[u8; 144],
-    buffer: &mut [u64],
-) -> Walked
-    ensures walked { walked_by result buffer.new ≡ days_walk frame bounds held days.now lists.now buffer.old }
+pub fn walk_days(candidates: &Candidates, bounds: Bounds, held: Held, buffer: &mut [u64]) -> Walked
+    ensures walked { walked_by result buffer.new
+        ≡ days_walk candidates.now.frame bounds held candidates.now.days.now candidates.now.lists.now buffer.old }
     ensures state { result.held.cursor.state ≡ held.cursor.state }
 {
+    let frame = candidates.frame;
     let mut why = Why::Through;
     let mut at = held;
     if !(is_framed(frame) & is_ready(bounds, held, buffer.len())) {
@@ -37,7 +32,7 @@ pub fn walk_days(
                 why = Why::Full;
                 break 'days;
             }
-            let second = second_on(frame, frame.first as u32, days, lists, day, time);
+            let second = candidates.second_on(frame.first as u32, day, time);
             if is_late(bounds, second) {
                 why = Why::Until;
                 break 'days;

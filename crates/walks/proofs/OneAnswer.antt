@@ -6,12 +6,12 @@ use Rattle.walks.proofs.rrule_iter.midnight_of.Kinds as midnight-of-kinds
 use Rattle.walks.proofs.rrule_iter.midnight_of.Reads as midnight-of
 use Rattle.walks.proofs.rrule_iter.is_framed.Kinds as is-framed-kinds
 use Rattle.walks.proofs.rrule_iter.is_framed.Reads as is_framed
-use Rattle.walks.proofs.rrule_iter.second_on.Kinds as second-on-kinds
-use Rattle.walks.proofs.rrule_iter.second_on.Reads as second-on
-use Rattle.walks.proofs.rrule_iter.second_at.Kinds as second-at-kinds
-use Rattle.walks.proofs.rrule_iter.second_at.Reads as second_at
-use Rattle.walks.proofs.rrule_iter.candidate_at.Kinds as candidate-at-kinds
-use Rattle.walks.proofs.rrule_iter.candidate_at.Reads as candidate-at
+use Rattle.walks.proofs.rrule_iter.Candidates.second_on.Kinds as second-on-kinds
+use Rattle.walks.proofs.rrule_iter.Candidates.second_on.Reads as second-on
+use Rattle.walks.proofs.rrule_iter.Candidates.second_at.Kinds as second-at-kinds
+use Rattle.walks.proofs.rrule_iter.Candidates.second_at.Reads as second_at
+use Rattle.walks.proofs.rrule_iter.Candidates.candidate_at.Kinds as candidate-at-kinds
+use Rattle.walks.proofs.rrule_iter.Candidates.candidate_at.Reads as candidate-at
 
 pub midnight_of_has_one : Determines 1 midnight-of-kinds.ps midnight-of-kinds.r midnight-of.Post
 midnight_of_has_one κs a x y e f p q = one_answer p.0 q.0

@@ -1,5 +1,6 @@
 // A period's candidates: each is told by its number, as a second.
 ghost use Rattle.std.specs.Prelude.{◌≡◌, ◌+◌, ◌*◌, ◌%◌, ◌<◌, ◌^◌, get_or};
+ghost use Rattle.times.specs.TimeSets.{time_at};
 ghost use Rattle.walks.specs.Walks.{in_year, is_framed, second_on, second_at, candidate_at};
 
 use machine::Cursor;
@@ -38,7 +39,7 @@ pub struct Bounds {
     pub count: Option<u32>,
 }
 
-// A period's candidates: their days are places of the year that begins on the day first, their times are told by number.
+// What a period's candidates are told by: their days are places of the year that begins on the day first, their times are told by number.
 #[derive(Clone, Copy)]
 pub struct Frame {
     pub freq: Frequency,
@@ -58,6 +59,14 @@ pub fn midnight_of(first: u32, days: &[u16], day: usize) -> u64
     (first as u64 + place as u64) * 86400
 }
 
+// The time of this number, in seconds of its day.
+fn time_of(frame: Frame, lists: &[u8; 144], time: u32) -> u64
+    ensures is { result ≡ time_at frame.freq frame.begins frame.counts lists.now time }
+    ensures small { result < 2 ^ 40 }
+{
+    time_at(frame.freq, frame.begins, frame.counts, lists, time)
+}
+
 // Whether a frame is small enough that no sum wraps, as every period's is.
 #[tactic(auto, unfolding(crate::specs::Walks::is_framed))]
 pub fn is_framed(frame: Frame) -> bool
@@ -66,43 +75,41 @@ pub fn is_framed(frame: Frame) -> bool
     (frame.days <= 373) & ((frame.times < 131072) & (frame.first < 4194304))
 }
 
-// The time of this number on the day of this number, as a second. The year's first day is told in 32 bits, so that no sum wraps.
-pub fn second_on(
-    frame: Frame,
-    first: u32,
-    days: &[u16; 373],
-    lists: &[u8; 144],
-    day: usize,
-    time: u32,
-) -> u64
-    ensures { result ≡ second_on (in_year frame first) days.now lists.now day time }
-{
-    let midnight = midnight_of(first, days, day);
-    midnight + time_at(frame.freq, frame.begins, frame.counts, lists, time)
+// A period's candidates: their frame, the places of their days in the year, and the hours, minutes and seconds of their times, in a row.
+#[derive(Clone, Copy)]
+pub struct Candidates<'a> {
+    pub frame: Frame,
+    pub days: &'a [u16; 373],
+    pub lists: &'a [u8; 144],
 }
 
-// The candidate of this number, as a second. Of the year's first day 32 bits are read, so that no sum wraps.
-pub fn second_at(frame: Frame, days: &[u16; 373], lists: &[u8; 144], number: u32) -> u64
-    ensures { result ≡ second_at (in_year frame (frame.first % 4294967296)) days.now lists.now number }
-{
-    let first = (frame.first % 4294967296) as u32;
-    let day = quotient(number, frame.times);
-    second_on(
-        frame,
-        first,
-        days,
-        lists,
-        day as usize,
-        number - day * frame.times,
-    )
-}
-
-// The candidate of this number, as a second; 0 where a sum could wrap.
-pub fn candidate_at(frame: Frame, days: &[u16; 373], lists: &[u8; 144], number: u32) -> u64
-    ensures { result ≡ candidate_at frame days.now lists.now number }
-{
-    if !is_framed(frame) {
-        return 0;
+impl<'a> Candidates<'a> {
+    // The time of this number on the day of this number, as a second. The year's first day is told in 32 bits, so that no sum wraps.
+    pub fn second_on(&self, first: u32, day: usize, time: u32) -> u64
+        ensures { result ≡ second_on (in_year self.now.frame first) self.now.days.now self.now.lists.now day time }
+    {
+        let frame = self.frame;
+        let days = self.days;
+        let lists = self.lists;
+        midnight_of(first, days, day) + time_of(frame, lists, time)
     }
-    second_at(frame, days, lists, number)
+
+    // The candidate of this number, as a second. Of the year's first day 32 bits are read, so that no sum wraps.
+    pub fn second_at(&self, number: u32) -> u64
+        ensures { result ≡ second_at (in_year self.now.frame (self.now.frame.first % 4294967296)) self.now.days.now self.now.lists.now number }
+    {
+        let first = (self.frame.first % 4294967296) as u32;
+        let day = quotient(number, self.frame.times);
+        self.second_on(first, day as usize, number - day * self.frame.times)
+    }
+
+    // The candidate of this number, as a second; 0 where a sum could wrap.
+    pub fn candidate_at(&self, number: u32) -> u64
+        ensures { result ≡ candidate_at self.now.frame self.now.days.now self.now.lists.now number }
+    {
+        if !is_framed(self.frame) {
+            return 0;
+        }
+        self.second_at(number)
+    }
 }

@@ -30,17 +30,17 @@ few c = leb-true _ _ (both (leb c.args.kept 732) _ (not-false _ c.if-not-kept-is
 
 walkable : (c : Else-not-kept-is_framed) →
     let a = c.args in
-    is_walkable a.frame a.bounds a.held a.buffer.now ≡ true
+    is_walkable a.candidates.now.frame a.bounds a.held a.buffer.now ≡ true
 walkable c =
     let a = c.args in
-    walkable_by a.frame a.bounds a.held a.buffer.now _ _ true c.is_framed.ensures c.is_ready.ensures
+    walkable_by a.candidates.now.frame a.bounds a.held a.buffer.now _ _ true c.is_framed.ensures c.is_ready.ensures
     (both (leb a.kept 732) _ (not-false _ c.if-not-kept-is_framed.false-raw)).1
 
-framed : (c : After-second_at-second) → is_framed c.args.frame ≡ true
+framed : (c : After-second_at-second) → is_framed c.args.candidates.now.frame ≡ true
 framed c =
     let a = c.args in
-    (both (is_framed a.frame) _
-    (walkable_by a.frame a.bounds a.held a.buffer.now _ _ true c.is_framed.ensures c.is_ready.ensures
+    (both (is_framed a.candidates.now.frame) _
+    (walkable_by a.candidates.now.frame a.bounds a.held a.buffer.now _ _ true c.is_framed.ensures c.is_ready.ensures
     (both (leb a.kept 732) _ (not-false _ c.if-not-kept-is_framed.false-raw)).1)).0
 
 ready : (c : Else-not-kept-is_framed) →
@@ -54,17 +54,17 @@ few_kept c = leb-true _ _ (both (leb c.args.kept 732) _ (not-false _ c.if-not-ke
 
 still_walkable : (c : At-loop-i) →
     let a = c.args in
-    is_walkable a.frame a.bounds a.held a.buffer.now ≡ true
+    is_walkable a.candidates.now.frame a.bounds a.held a.buffer.now ≡ true
 still_walkable c =
     let a = c.args in
-    walkable_by a.frame a.bounds a.held a.buffer.now _ _ true c.is_framed.ensures c.is_ready.ensures
+    walkable_by a.candidates.now.frame a.bounds a.held a.buffer.now _ _ true c.is_framed.ensures c.is_ready.ensures
     (both (leb a.kept 732) _ (not-false _ c.if-not-kept-is_framed.false-raw)).1
 
 -- the whole walk is what is left of it at a turn of the loop
 whole : (c : At-loop-i) →
     let a = c.args in
-    places_walk a.frame a.bounds a.held a.kept a.places.now a.days.now a.lists.now a.buffer.now
-    ≡ walk_from a.bounds (second_chosen a.frame a.days.now a.lists.now a.places.now) a.kept c.loop-i.at c.loop-i.buffer
+    places_walk a.candidates.now.frame a.bounds a.held a.kept a.places.now a.candidates.now.days.now a.candidates.now.lists.now a.buffer.now
+    ≡ walk_from a.bounds (second_chosen a.candidates.now.frame a.candidates.now.days.now a.candidates.now.lists.now a.places.now) a.kept c.loop-i.at c.loop-i.buffer
 whole c = places_walked _ _ _ _ _ _ _ _ (few_kept c) (still_walkable c) ∙ c.loop-i.invariant.6
 
 -- a slot is free
@@ -77,12 +77,12 @@ free c e = omega (arith, e, c.if-slot-buffer.false)
 in_hand : (c : After-second_at-second) →
     let l = c in
     let a = l.args in
-    c.second_at-second.result ≡ second_chosen a.frame a.days.now a.lists.now a.places.now l.loop-i.at.cursor.place
+    c.second_at-second.result ≡ second_chosen a.candidates.now.frame a.candidates.now.days.now a.candidates.now.lists.now a.places.now l.loop-i.at.cursor.place
 in_hand c =
     let l = c in
     let a = l.args in
     second_chosen_lem _ _ _ _ _ l.loop-i.i _ l.loop-i.invariant.1
-    (c.second_at-second.ensures ∙ year_kept a.frame a.days.now a.lists.now _ (framed c))
+    (c.second_at-second.ensures ∙ year_kept a.candidates.now.frame a.candidates.now.days.now a.candidates.now.lists.now _ (framed c))
 
 -- it is not above UNTIL
 on_time : (c : Else-is_late) →
@@ -92,7 +92,7 @@ on_time c = sym c.is_late.ensures ∙ c.if-is_late.false
 
 -- the buffer is short enough that neither count can wrap
 room : (c : At-loop-i) → length c.loop-i.buffer * 8 < 2 ^ 63
-room c = rw c.loop-i.invariant.5 c.well_formed.1.1.1.1.1.1.1.0.1
+room c = rw c.loop-i.invariant.5 c.well_formed.1.1.1.1.1.0.1
 
 number_small : (c : At-loop-i) → c.loop-i.at.cursor.number + 1 < 2 ^ 64
 number_small c =
@@ -106,7 +106,7 @@ handed_small c = omega (arith, room c, c.loop-i.invariant.4)
 pub returns-then-not-kept-is_framed : goal.returns-then-not-kept-is_framed
 returns-then-not-kept-is_framed c =
     let a = c.args in record {
-      walked = places_left a.frame a.bounds a.held a.buffer.now a.kept a.places.now a.days.now a.lists.now _ _
+      walked = places_left a.candidates.now.frame a.bounds a.held a.buffer.now a.kept a.places.now a.candidates.now.days.now a.candidates.now.lists.now _ _
           c.is_framed.ensures c.is_ready.ensures (not-true _ c.if-not-kept-is_framed.true-raw);
       state = refl;
     }

@@ -11,7 +11,7 @@ abbrev pub invariant-loop-i : goal.invariant-loop-i
 invariant-loop-i l =
     (l.why ≡ Why.Through) × (l.at.cursor.place ≡ l.i) × (l.initial.at.handed ≤ l.at.handed) × (l.at.cursor.number + l.initial.at.handed ≡ l.initial.at.cursor.number + l.at.handed)
     × (l.at.handed ≤ length l.buffer) × (length l.buffer ≡ length l.initial.buffer)
-    × (walk_from l.bounds (second_chosen l.frame l.days l.lists l.places) l.kept l.initial.at l.initial.buffer ≡ walk_from l.bounds (second_chosen l.frame l.days l.lists l.places) l.kept l.at l.buffer)
+    × (walk_from l.bounds (second_chosen l.candidates.frame l.candidates.days.now l.candidates.lists.now l.places) l.kept l.initial.at l.initial.buffer ≡ walk_from l.bounds (second_chosen l.candidates.frame l.candidates.days.now l.candidates.lists.now l.places) l.kept l.at l.buffer)
     × (l.at.cursor.state ≡ l.initial.at.cursor.state)
 
 abbrev pub decreases-loop-i : goal.decreases-loop-i

@@ -32,16 +32,16 @@ Counted h₀ h buffer₀ buffer =
 -- behind the guard a walk may be
 walkable : (c : Else-not-is_framed-is_ready) →
     let a = c.args in
-    is_walkable a.frame a.bounds a.held a.buffer.now ≡ true
+    is_walkable a.candidates.now.frame a.bounds a.held a.buffer.now ≡ true
 walkable c =
     let a = c.args in
-    walkable_by a.frame a.bounds a.held a.buffer.now _ _ true
+    walkable_by a.candidates.now.frame a.bounds a.held a.buffer.now _ _ true
     c.is_framed.ensures c.is_ready.ensures (not-false _ c.if-not-is_framed-is_ready.false-raw)
 
-small : (c : Else-not-is_framed-is_ready) → Small c.args.frame
+small : (c : Else-not-is_framed-is_ready) → Small c.args.candidates.now.frame
 small c =
     let a = c.args in
-    (walkable_told a.frame a.bounds a.held a.buffer.now (walkable c)).0
+    (walkable_told a.candidates.now.frame a.bounds a.held a.buffer.now (walkable c)).0
 
 ready : (c : Else-not-is_framed-is_ready) →
     let a = c.args in
@@ -51,22 +51,22 @@ ready c = (walkable_told _ _ _ _ (walkable c)).1
 -- and the walk goes from the place on
 begun : (c : Else-not-is_framed-is_ready) →
     let a = c.args in
-    days_walk a.frame a.bounds a.held a.days.now a.lists.now a.buffer.now
-    ≡ walk_from a.bounds (second_at a.frame a.days.now a.lists.now) (a.frame.days * a.frame.times) a.held a.buffer.now
+    days_walk a.candidates.now.frame a.bounds a.held a.candidates.now.days.now a.candidates.now.lists.now a.buffer.now
+    ≡ walk_from a.bounds (second_at a.candidates.now.frame a.candidates.now.days.now a.candidates.now.lists.now) (a.candidates.now.frame.days * a.candidates.now.frame.times) a.held a.buffer.now
 begun c = days_walked _ _ _ _ _ _ (walkable c)
 
 -- the same at a turn of the inner loop
-still_walkable : (c : At-loop-time) → is_walkable c.args.frame c.args.bounds c.args.held c.args.buffer.now ≡ true
+still_walkable : (c : At-loop-time) → is_walkable c.args.candidates.now.frame c.args.bounds c.args.held c.args.buffer.now ≡ true
 still_walkable c =
     let a = c.args in
-    walkable_by a.frame a.bounds a.held a.buffer.now _ _ true
+    walkable_by a.candidates.now.frame a.bounds a.held a.buffer.now _ _ true
     c.is_framed.ensures c.is_ready.ensures (not-false _ c.if-not-is_framed-is_ready.false-raw)
 
 -- the whole walk is what is left of it at a turn of the inner loop
 whole : (c : At-loop-time) →
     let a = c.args in
-    days_walk a.frame a.bounds a.held a.days.now a.lists.now a.buffer.now
-    ≡ walk_from a.bounds (second_at a.frame a.days.now a.lists.now) (a.frame.days * a.frame.times) c.loop-time.at c.loop-time.buffer
+    days_walk a.candidates.now.frame a.bounds a.held a.candidates.now.days.now a.candidates.now.lists.now a.buffer.now
+    ≡ walk_from a.bounds (second_at a.candidates.now.frame a.candidates.now.days.now a.candidates.now.lists.now) (a.candidates.now.frame.days * a.candidates.now.frame.times) c.loop-time.at c.loop-time.buffer
 whole c = days_walked _ _ _ _ _ _ (still_walkable c) ∙ c.days.invariant.4 ∙ c.loop-time.invariant.4
 
 -- and the cursor's state is as it was
@@ -80,13 +80,13 @@ there : (c : In-loop-time) →
     let l = c in
     let d = l in
     let a = d.args in
-    l.loop-time.at.cursor.place ≡ d.days.day * a.frame.times + l.loop-time.time
+    l.loop-time.at.cursor.place ≡ d.days.day * a.candidates.now.frame.times + l.loop-time.time
 there c = let l = c in let d = l in omega (arith, l.loop-time.invariant.2, d.days.invariant.2)
 
 within : (c : In-loop-time) →
     let l = c in
     let a = l.args in
-    l.loop-time.at.cursor.place < a.frame.days * a.frame.times
+    l.loop-time.at.cursor.place < a.candidates.now.frame.days * a.candidates.now.frame.times
 within c =
     let l = c in
     rw (there c) (within_days _ _ _ _ l.days-test.true c.loop-time-test.true)
@@ -101,7 +101,7 @@ free c e = omega (arith, e, c.if-slot-buffer.false)
 in_hand : (c : After-second_on-second) →
     let l = c in
     let a = l.args in
-    c.second_on-second.result ≡ second_at a.frame a.days.now a.lists.now l.loop-time.at.cursor.place
+    c.second_on-second.result ≡ second_at a.candidates.now.frame a.candidates.now.days.now a.candidates.now.lists.now l.loop-time.at.cursor.place
 in_hand c =
     let t = c in
     c.second_on-second.ensures ∙ second_there _ _ _ _ _ _ (there t.before.before.before) t.loop-time-test.true
@@ -118,7 +118,7 @@ on_time c = sym c.is_late.ensures ∙ c.if-is_late.false
 room : (c : At-loop-time) → length c.loop-time.buffer * 8 < 2 ^ 63
 room c =
     let d = c in
-    rw (c.loop-time.invariant.3.3 ∙ d.days.invariant.3.3) d.well_formed.1.1.1.1.1.0.1
+    rw (c.loop-time.invariant.3.3 ∙ d.days.invariant.3.3) d.well_formed.1.1.1.0.1
 
 number_small : (c : At-loop-time) → c.loop-time.at.cursor.number + 1 < 2 ^ 64
 number_small c =
@@ -133,7 +133,7 @@ pub returns-then-not-is_framed-is_ready : goal.returns-then-not-is_framed-is_rea
 returns-then-not-is_framed-is_ready c =
     let a = c.args in record {
       walked = days_left _ _ _ _ _ _
-          (walkable_by a.frame a.bounds a.held a.buffer.now _ _ false
+          (walkable_by a.candidates.now.frame a.bounds a.held a.buffer.now _ _ false
           c.is_framed.ensures c.is_ready.ensures (not-true _ c.if-not-is_framed-is_ready.true-raw));
       state = refl;
     }
@@ -148,7 +148,7 @@ pub overflow_mul-time : goal.overflow_mul-time
 overflow_mul-time c =
     let a = c.args in
     let g = c.well_formed.1.1.0 in
-    rw c.quotient-first_day.ensures (omega (arith, g, div-mul-le_self a.held.cursor.place a.frame.times))
+    rw c.quotient-first_day.ensures (omega (arith, g, div-mul-le_self a.held.cursor.place a.candidates.now.frame.times))
 
 pub overflow_sub-time : goal.overflow_sub-time
 overflow_sub-time c = rw c.quotient-first_day.ensures (div-mul-le_self _ _)
@@ -158,8 +158,8 @@ days-init c =
     let q = c in
     let a = q.args in (
       refl,
-      rw q.quotient-first_day.ensures (time_left a.frame.times a.held.cursor.place q.if-frame-eq0.false),
-      days_and_left a.frame.times a.held.cursor.place q.quotient-first_day.result q.quotient-first_day.ensures,
+      rw q.quotient-first_day.ensures (time_left a.candidates.now.frame.times a.held.cursor.place q.if-frame-eq0.false),
+      days_and_left a.candidates.now.frame.times a.held.cursor.place q.quotient-first_day.result q.quotient-first_day.ensures,
       (search rules, search rules, (ready (goal.at.days-init c).Else-not-is_framed-is_ready).handed, refl, refl),
       refl,
     )
@@ -237,7 +237,7 @@ days-preserved c =
     let a = d.args in (
       l.loop-time.invariant.0,
       omega (arith, d.days.invariant.1),
-      rw (next_day_lem d.days.day a.frame.times) (omega (arith, l.loop-time.invariant.1, l.loop-time.invariant.2, d.days.invariant.2, c.loop-time-test.false)),
+      rw (next_day_lem d.days.day a.candidates.now.frame.times) (omega (arith, l.loop-time.invariant.1, l.loop-time.invariant.2, d.days.invariant.2, c.loop-time-test.false)),
       (
         omega (arith, l.loop-time.invariant.3.0, d.days.invariant.3.0),
         omega (arith, l.loop-time.invariant.3.1, d.days.invariant.3.1),

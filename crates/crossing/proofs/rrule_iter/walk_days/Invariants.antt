@@ -18,8 +18,8 @@ Counted h₀ h buffer₀ buffer =
 abbrev pub invariant-loop-time : goal.invariant-loop-time
 invariant-loop-time l =
     (l.why ≡ Why.Through) × (l.time ≤ l.frame.times) × (l.at.cursor.place + l.initial.time ≡ l.initial.at.cursor.place + l.time) × Counted l.initial.at l.at l.initial.buffer l.buffer
-    × (walk_from l.bounds (second_at l.frame l.days l.lists) (l.frame.days * l.frame.times) l.initial.at l.initial.buffer
-    ≡ walk_from l.bounds (second_at l.frame l.days l.lists) (l.frame.days * l.frame.times) l.at l.buffer)
+    × (walk_from l.bounds (second_at l.frame l.candidates.days.now l.candidates.lists.now) (l.frame.days * l.frame.times) l.initial.at l.initial.buffer
+    ≡ walk_from l.bounds (second_at l.frame l.candidates.days.now l.candidates.lists.now) (l.frame.days * l.frame.times) l.at l.buffer)
 
 abbrev pub decreases-loop-time : goal.decreases-loop-time
 decreases-loop-time l = l.frame.times - l.time
@@ -27,8 +27,8 @@ decreases-loop-time l = l.frame.times - l.time
 abbrev pub invariant-days : goal.invariant-days
 invariant-days l =
     (l.why ≡ Why.Through) × (l.time < l.frame.times) × (l.at.cursor.place ≡ l.day * l.frame.times + l.time) × Counted l.initial.at l.at l.initial.buffer l.buffer
-    × (walk_from l.bounds (second_at l.frame l.days l.lists) (l.frame.days * l.frame.times) l.initial.at l.initial.buffer
-    ≡ walk_from l.bounds (second_at l.frame l.days l.lists) (l.frame.days * l.frame.times) l.at l.buffer)
+    × (walk_from l.bounds (second_at l.frame l.candidates.days.now l.candidates.lists.now) (l.frame.days * l.frame.times) l.initial.at l.initial.buffer
+    ≡ walk_from l.bounds (second_at l.frame l.candidates.days.now l.candidates.lists.now) (l.frame.days * l.frame.times) l.at l.buffer)
 
 abbrev pub decreases-days : goal.decreases-days
 decreases-days l = l.frame.days - l.day
