@@ -10,7 +10,7 @@ use plans::plan::Plan;
 use rule::rrule::Frequency;
 use stretches::counter_date::Days;
 use units::unit::unit_of;
-use walks::rrule_iter::{Bounds, candidate_at};
+use walks::rrule_iter::{Bounds, Candidates};
 
 // The first second after a period with this tick, whose days end before the day to; 0 where they are far out of range.
 fn end_of(freq: Frequency, to: u64, tick: u64) -> u64
@@ -47,7 +47,12 @@ fn next_second(plan: &Plan, opened: &Opened, end: u64, i: u32) -> u64
         return end;
     }
     let number = candidate_of(plan.shape.positioned, &opened.places, i);
-    candidate_at(opened.period.frame, &opened.days, &plan.lists, number)
+    let candidates = Candidates {
+        frame: opened.period.frame,
+        days: &opened.days,
+        lists: &plan.lists,
+    };
+    candidates.candidate_at(number)
 }
 
 // Whether so many can have been handed out when this second comes next: below COUNT, and one in each second at most.
