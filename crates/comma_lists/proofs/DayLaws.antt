@@ -1,6 +1,6 @@
 -- An entry of BYDAY, by its number and its weekday.
 -- Assumes nothing.
-use Rattle.std.specs.Prelude.{if◌then◌else◌}
+use Rattle.std.specs.Prelude.{Ok, Err}
 use Prim.Native.Nat.{ℕ, ◌≤◌}
 use native.Mathlib.Omega.{arith}
 use mathlib.Core.Path.{◌≡◌, refl, sym, ap, subst, ◌∙◌}
@@ -11,13 +11,13 @@ use lib.IntN.{ℤ, pos}
 use Rattle.symbols.specs.Languages.{Both, both}
 use Rattle.symbols.specs.Takes.{Took, took}
 use Rattle.symbols.specs.Readers.{with_first, followed, perhaps}
-use Rattle.recur.specs.declared.Reached.{Reached}
-use Rattle.recur.specs.declared.ReachedEntry.{ReachedEntry}
-use Rattle.recur.specs.declared.ReachedDay.{ReachedDay}
+use Rattle.recur.specs.declared.Symbol.{Symbol}
 use Rattle.recur.specs.Reading.{weekday_at, signed_at, is_numbered, nth_at, day_at}
-use Rattle.recur.specs.Shown.{shown, shown_entry, shown_day}
+use Rattle.recur.specs.Shown.{shown, shown_as, day_of}
 use Rattle.recur.proofs.Instances.{takes_weekday, takes_signed}
-use Rattle.comma_lists.proofs.ListLaws.{Within, takes_within, entry_value}
+use Rattle.recur.proofs.ShownLaws.{symbol, whole_is, place_is, value_is, not_whole, stop_is, turned_whole, turned_stopped}
+use Rattle.comma_lists.specs.Lists.{Within}
+use Rattle.comma_lists.specs.Inside.{takes_within}
 
 -- ---- the number
 
@@ -39,28 +39,10 @@ nth_within at t h = perhaps_within is_numbered (pos 0) (signed_at 1) at t h (tak
 
 -- ---- the weekday
 
-pub weekday_small : (at : ℕ) (xs : List ℕ) {d : Reached} → d ≡ shown (weekday_at at xs) → d.value ≤ 6
-weekday_small at xs e = subst (λ (n : ℕ). n ≤ 6) (sym (ap (λ (r : Reached). r.value) e)) (go (weekday_at at xs).whole refl)
-  where
-    go : (b : Bool) → (weekday_at at xs).whole ≡ b → (if b then (weekday_at at xs).value else 0) ≤ 6
-    go true f = omega (arith, ((takes_weekday.outcome at xs).good f).there)
-    go false f = omega arith
-
-not_shown : (k : Took ℕ) (v : ℤ) (d : Reached) → d ≡ shown k → d.whole ≡ false
-    → ◌≡◌ {A = ReachedDay} (record { whole = false; place = d.place; nth = pos 0; weekday = pos 0 }) (shown_day (with_first v k))
-not_shown k v d e w =
-    let p : d.place ≡ k.place = ap (λ (r : Reached). r.place) e in
-    let f : k.whole ≡ false = sym (ap (λ (r : Reached). r.whole) e) ∙ w in
-    rw (p, f)
-
-is_shown : (k : Took ℕ) (v : ℤ) (d : Reached) (nth weekday : ℤ) → d ≡ shown k → d.whole ≡ true → nth ≡ v → weekday ≡ pos d.value
-    → ◌≡◌ {A = ReachedDay} (record { whole = true; place = d.place; nth = nth; weekday = weekday }) (shown_day (with_first v k))
-is_shown k v d nth weekday e w n m =
-    let p : d.place ≡ k.place = ap (λ (r : Reached). r.place) e in
-    let f : k.whole ≡ true = sym (ap (λ (r : Reached). r.whole) e) ∙ w in
-    let y : d.value ≡ k.value = ap (λ (r : Reached). r.value) e ∙ ap (λ (b : Bool). if b then k.value else 0) f in
-    let z : weekday ≡ pos k.value = m ∙ ap (λ (i : ℕ). pos i) y in
-    rw (p, f, n, z)
+pub weekday_small : (at : ℕ) (xs : List ℕ) {d : Symbol ℕ} → Ok d ≡ shown (weekday_at at xs) → d.value ≤ 6
+weekday_small at xs {d} e =
+    let k = weekday_at at xs in
+    omega (arith, value_is (λ (n : ℕ). n) k d e, ((takes_weekday.outcome at xs).good (whole_is (λ (n : ℕ). n) k d e)).there)
 
 -- ---- both
 
@@ -76,34 +58,36 @@ day_by at xs b e =
       | false ↦ took false (nth_at at xs).place (nth_at at xs).rest (both (nth_at at xs).value 0)
     ]) e
 
-module _ (at : ℕ) (t : List ℕ) (n : ReachedEntry) (e : n ≡ shown_entry (nth_at at (drop at t))) where
+module _ (at : ℕ) (t : List ℕ) where
   -- the number isn't whole
-  pub no_number : n.whole ≡ false
-      → ◌≡◌ {A = ReachedDay} (record { whole = false; place = n.place; nth = pos 0; weekday = pos 0 }) (shown_day (day_at at (drop at t)))
-  no_number w =
-      ap (λ (p : ℕ). record { whole = false; place = p; nth = pos 0; weekday = pos 0 }) (ap (λ (r : ReachedEntry). r.place) e)
-      ∙ sym (ap shown_day (day_by at (drop at t) false (sym (ap (λ (r : ReachedEntry). r.whole) e) ∙ w)))
+  pub no_number : (p : ℕ) → Err p ≡ shown (nth_at at (drop at t)) → Err p ≡ shown_as day_of (day_at at (drop at t))
+  no_number p e =
+      let k = nth_at at (drop at t) in
+      ap (λ (q : ℕ). Err q) (stop_is (λ (z : ℤ). z) k p e)
+      ∙ sym (ap (λ (d : Took (Both ℤ ℕ)). shown_as day_of d) (day_by at (drop at t) false (not_whole (λ (z : ℤ). z) k p e)))
 
-  module _ (h : at ≤ length t) (w : n.whole ≡ true) where
-    number_whole : (nth_at at (drop at t)).whole ≡ true
-    number_whole = sym (ap (λ (r : ReachedEntry). r.whole) e) ∙ w
-
+  module _ (n : Symbol ℤ) (e : Ok n ≡ shown (nth_at at (drop at t))) (h : at ≤ length t) where
     -- the weekday is read behind it
-    behind_number : day_at at (drop at t) ≡ with_first (nth_at at (drop at t)).value (weekday_at n.place (drop n.place t))
+    behind_number : day_at at (drop at t) ≡ with_first n.value (weekday_at n.place (drop n.place t))
     behind_number =
         let k = nth_at at (drop at t) in
-        day_by at (drop at t) true number_whole
+        day_by at (drop at t) true (whole_is (λ (z : ℤ). z) k n e)
         ∙ ap (λ (r : List ℕ). with_first k.value (weekday_at k.place r)) (nth_within at t h).rest
-        ∙ sym (ap (λ (p : ℕ). with_first k.value (weekday_at p (drop p t))) (ap (λ (r : ReachedEntry). r.place) e))
+        ∙ sym (ap (λ (p : ℕ). with_first k.value (weekday_at p (drop p t))) (place_is (λ (z : ℤ). z) k n e))
+        ∙ sym (ap (λ (v : ℤ). with_first v (weekday_at n.place (drop n.place t))) (value_is (λ (z : ℤ). z) k n e))
 
-    module _ (d : Reached) (f : d ≡ shown (weekday_at n.place (drop n.place t))) where
-      pub no_weekday : d.whole ≡ false
-          → ◌≡◌ {A = ReachedDay} (record { whole = false; place = d.place; nth = pos 0; weekday = pos 0 }) (shown_day (day_at at (drop at t)))
-      no_weekday v = not_shown (weekday_at n.place (drop n.place t)) (nth_at at (drop at t)).value d f v ∙ sym (ap shown_day behind_number)
+    pub number_ends : n.place ≤ length t
+    number_ends = omega (arith, (nth_within at t h).to, place_is (λ (z : ℤ). z) (nth_at at (drop at t)) n e)
 
-      pub whole_day : d.whole ≡ true → (nth weekday : ℤ) → nth ≡ n.value → weekday ≡ pos d.value
-          → ◌≡◌ {A = ReachedDay} (record { whole = true; place = d.place; nth = nth; weekday = weekday }) (shown_day (day_at at (drop at t)))
-      whole_day v nth weekday g m =
-          let k = nth_at at (drop at t) in
-          is_shown (weekday_at n.place (drop n.place t)) k.value d nth weekday f v (g ∙ entry_value k e number_whole) m
-          ∙ sym (ap shown_day behind_number)
+    pub no_weekday : (p : ℕ) → Err p ≡ shown (weekday_at n.place (drop n.place t)) → Err p ≡ shown_as day_of (day_at at (drop at t))
+    no_weekday p f =
+        turned_stopped (λ (v : ℕ). v) (weekday_at n.place (drop n.place t)) p f (λ (v : ℕ). day_of (both n.value v))
+        ∙ sym (ap (λ (d : Took (Both ℤ ℕ)). shown_as day_of d) behind_number)
+
+    pub whole_day : (d : Symbol ℕ) → Ok d ≡ shown (weekday_at n.place (drop n.place t)) → (nth weekday : ℤ) → nth ≡ n.value → weekday ≡ pos d.value
+        → Ok (symbol d.place (record { nth = nth; weekday = weekday })) ≡ shown_as day_of (day_at at (drop at t))
+    whole_day d f nth weekday l m =
+        ap (λ (z : ℤ). Ok (symbol d.place (record { nth = z; weekday = weekday }))) l
+        ∙ ap (λ (w : ℤ). Ok (symbol d.place (record { nth = n.value; weekday = w }))) m
+        ∙ turned_whole (λ (v : ℕ). v) (weekday_at n.place (drop n.place t)) d f (λ (v : ℕ). day_of (both n.value v))
+        ∙ sym (ap (λ (d : Took (Both ℤ ℕ)). shown_as day_of d) behind_number)

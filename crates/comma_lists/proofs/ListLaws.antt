@@ -1,36 +1,24 @@
 -- Lists within a text, for any kind of entry: what a list comes to by its first entry.
 -- Assumes nothing.
-use Rattle.std.specs.Prelude.{if◌then◌else◌}
+use Rattle.std.specs.Prelude.{Ok, IsOk, is_ok}
 use Prim.Native.Nat.{ℕ, zero, suc, ◌+◌, ◌≤◌, ◌<◌}
 use native.Mathlib.Numerals.{add-one}
 use mathlib.Core.Path.{◌≡◌, refl, sym, ap, ◌∙◌}
 use mathlib.Core.Bool.{Bool, true, false, ◌&&◌}
-use mathlib.Core.List.{List}
+use mathlib.Core.List.{List, map}
 use lib.ListN.{length, drop}
-use lib.IntN.{ℤ, pos}
+use lib.IntN.{ℤ}
 use Rattle.symbols.specs.Languages.{Both}
-use Rattle.symbols.specs.Takes.{Took, Takes}
-use Rattle.symbols.specs.Readers.{head_is, behind, single, after, goes_on}
-use Rattle.recur.specs.declared.ReachedEntry.{ReachedEntry}
-use Rattle.recur.specs.declared.ReachedDay.{ReachedDay}
-use Rattle.recur.specs.Grammar.{comma, nth_of, weekday_of}
+use Rattle.symbols.specs.Takes.{Took, took}
+use Rattle.symbols.specs.Readers.{head_is, behind, single, after, goes_on, joined, turned, turned_into}
+use Rattle.recur.specs.declared.Symbol.{Symbol}
+use Rattle.recur.specs.Grammar.{comma, stays}
 use Rattle.recur.specs.Reading.{entry_at, day_at, entries_at, days_at}
-use Rattle.recur.specs.Shown.{shown_entry, shown_day}
-use Rattle.recur.proofs.Parted.{entries_on, entries_off, entries_last, days_on, days_off, days_last, behind_drop, rest_is, place_in}
-use Rattle.recur.proofs.Instances.{takes_entry, takes_day}
+use Rattle.recur.specs.Shown.{shown}
+use Rattle.recur.proofs.Parted.{joined_by, behind_drop}
+use Rattle.recur.proofs.ShownLaws.{whole_is, place_is, value_is}
 use Rattle.numerals.proofs.ByteLaws.{stands}
-
--- ---- readers within a text
-
--- a reader that began at a place of a text and stopped at another
-pub record Within {A : Type 0} (t : List ℕ) (at : ℕ) (k : Took A) : Type 0 where
-  pub rest : k.rest ≡ drop k.place t
-  pub from : at ≤ k.place
-  pub to : k.place ≤ length t
-
-pub takes_within : {A : Type 0} {take : ℕ → List ℕ → Took A} {L : A → List ℕ → Type 0} {P : ℕ → Type 0} → Takes A take L P
-    → (at : ℕ) (t : List ℕ) → at ≤ length t → Within t at (take at (drop at t))
-takes_within x at t h = let p = place_in x at t h in record { rest = rest_is x at t; from = p.0; to = p.1 }
+use Rattle.comma_lists.specs.Lists.{Within, list_of}
 
 -- ---- readers of lists
 
@@ -42,12 +30,45 @@ pub record Lists {A : Type 0} (take : ℕ → List ℕ → Took A) (list : ℕ �
   pub last : (at : ℕ) (t : List ℕ) → list zero at t ≡ single (take at t)
   pub within : (at : ℕ) (t : List ℕ) → at ≤ length t → Within t at (take at (drop at t))
 
-pub entry_lists : (signs : Bool) → Lists (entry_at signs) (entries_at signs)
-entry_lists signs =
-    record { on = entries_on signs; off = entries_off signs; last = entries_last signs 0; within = takes_within (takes_entry signs) }
+pub lists : {A : Type 0} (take : ℕ → List ℕ → Took A) → ((at : ℕ) (t : List ℕ) → at ≤ length t → Within t at (take at (drop at t))) → Lists take (list_of take)
+unfolding list_of joined
+lists take within = record {
+  on = λ n at t e. joined_by (λ (u : Unit {0}). take) stays comma n tt at t true e;
+  off = λ n at t e. joined_by (λ (u : Unit {0}). take) stays comma n tt at t false e;
+  last = λ at t. refl;
+  within = within;
+}
 
-pub day_lists_lem : Lists day_at days_at
-day_lists_lem = record { on = days_on; off = days_off; last = days_last 0; within = takes_within takes_day }
+-- a list of turned entries is the turned list
+pub turned_list : {A B : Type 0} (f : A → B) (take : ℕ → List ℕ → Took A) (n at : ℕ) (t : List ℕ)
+    → list_of (turned f take) n at t ≡ turned_into (λ (xs : List A). map f xs) (list_of take n at t)
+unfolding list_of joined
+turned_list f take zero at t = refl
+turned_list {A} {B} f take (suc n) at t = go (goes_on comma (take at t)) (turned_list f take n ((take at t).place + 1) (behind (take at t).rest))
+  where
+    go : (b : Bool) → list_of (turned f take) n ((take at t).place + 1) (behind (take at t).rest)
+        ≡ turned_into (λ (xs : List A). map f xs) (list_of take n ((take at t).place + 1) (behind (take at t).rest))
+        → ◌≡◌ {A = Took (List B)}
+        (elim b as (λ (x : Bool). Took (List B)) [
+          | true ↦ after (f (take at t).value) (list_of (turned f take) n ((take at t).place + 1) (behind (take at t).rest))
+          | false ↦ single (turned f take at t)
+        ])
+        (turned_into (λ (xs : List A). map f xs) (elim b as (λ (x : Bool). Took (List A)) [
+          | true ↦ after (take at t).value (list_of take n ((take at t).place + 1) (behind (take at t).rest))
+          | false ↦ single (take at t)
+        ]))
+    go true e = ap (λ (k : Took (List B)). after (f (take at t).value) k) e
+    go false e = refl
+
+-- the lists of the grammar
+pub list_of_entries : (signs : Bool) (n at : ℕ) (t : List ℕ) → list_of (entry_at signs) n at t ≡ entries_at signs n at t
+unfolding list_of entries_at
+list_of_entries signs n at t = refl
+
+pub list_of_days : (f : Both ℤ ℕ → ℤ) (n at : ℕ) (t : List ℕ)
+    → list_of (turned f day_at) n at t ≡ turned_into (λ (ds : List (Both ℤ ℕ)). map f ds) (days_at n at t)
+unfolding list_of days_at
+list_of_days f n at t = turned_list f day_at n at t
 
 -- What the code has seen of the entry at a place: whether it is whole, and the place behind it.
 pub record Seen {A : Type 0} (take : ℕ → List ℕ → Took A) (t : List ℕ) (at : ℕ) (whole : Bool) (place : ℕ) : Type 0 where
@@ -100,19 +121,13 @@ past_comma t place e b = (stands comma t place (sym e ∙ b)).inside
 
 -- ---- what the code's types show
 
-pub seen_entry : (take : ℕ → List ℕ → Took ℤ) (t : List ℕ) (at : ℕ) {e : ReachedEntry} → e ≡ shown_entry (take at (drop at t))
-    → Seen take t at e.whole e.place
-seen_entry take t at d = record { whole_is = ap (λ (r : ReachedEntry). r.whole) d; place_is = ap (λ (r : ReachedEntry). r.place) d }
+-- a whole symbol is answered
+pub is_shown : {A : Type 0} (k : Took A) → k.whole ≡ true → IsOk (shown k)
+is_shown {A} k w = ap (λ (b : Bool). is_ok (shown (took b k.place k.rest k.value))) w
 
-pub seen_day : (t : List ℕ) (at : ℕ) {e : ReachedDay} → e ≡ shown_day (day_at at (drop at t)) → Seen day_at t at e.whole e.place
-seen_day t at d = record { whole_is = ap (λ (r : ReachedDay). r.whole) d; place_is = ap (λ (r : ReachedDay). r.place) d }
+module _ (take : ℕ → List ℕ → Took ℤ) (t : List ℕ) (at : ℕ) {e : Symbol ℤ} (d : Ok e ≡ shown (take at (drop at t))) where
+  pub seen : Seen take t at true e.place
+  seen = record { whole_is = sym (whole_is (λ (z : ℤ). z) (take at (drop at t)) e d); place_is = place_is (λ (z : ℤ). z) (take at (drop at t)) e d }
 
--- values, of what is whole
-pub entry_value : (k : Took ℤ) {e : ReachedEntry} → e ≡ shown_entry k → k.whole ≡ true → e.value ≡ k.value
-entry_value k d w = ap (λ (r : ReachedEntry). r.value) d ∙ ap (λ (b : Bool). if b then k.value else pos 0) w
-
-pub day_nth : (k : Took (Both ℤ ℕ)) {e : ReachedDay} → e ≡ shown_day k → k.whole ≡ true → e.nth ≡ nth_of k.value
-day_nth k d w = ap (λ (r : ReachedDay). r.nth) d ∙ ap (λ (b : Bool). if b then nth_of k.value else pos 0) w
-
-pub day_weekday : (k : Took (Both ℤ ℕ)) {e : ReachedDay} → e ≡ shown_day k → k.whole ≡ true → e.weekday ≡ weekday_of k.value
-day_weekday k d w = ap (λ (r : ReachedDay). r.weekday) d ∙ ap (λ (b : Bool). if b then weekday_of k.value else pos 0) w
+  pub entry_value : e.value ≡ (take at (drop at t)).value
+  entry_value = value_is (λ (z : ℤ). z) (take at (drop at t)) e d

@@ -10,8 +10,8 @@ use lib.ListN.{length, drop, length-append, length-drop}
 use lib.Seq.{drop-append_seam, drop-drop}
 use Rattle.symbols.specs.Takes.{Took, Outcome, Takes}
 use Rattle.symbols.specs.Readers.{behind, single, after, goes_on, joined}
-use Rattle.recur.specs.Grammar.{with_used, stays, comma, semicolon}
-use Rattle.recur.specs.Reading.{entry_at, day_at, entries_at, days_at, part_at, parts_at}
+use Rattle.recur.specs.Grammar.{with_used, semicolon}
+use Rattle.recur.specs.Reading.{part_at, parts_at}
 
 -- ---- lists: the next entry is read where the separator stands behind a whole one, and there alone
 
@@ -19,7 +19,7 @@ module _ {S A : Type 0} (take : S → ℕ → List ℕ → Took A) (next : S →
   abbrev going_on : Took A → Took (List A)
   going_on k = after k.value (joined take next c n (next s k.value) (k.place + 1) (behind k.rest))
 
-  joined_by : (b : Bool) → goes_on c (take s at t) ≡ b
+  pub joined_by : (b : Bool) → goes_on c (take s at t) ≡ b
       → joined take next c (suc n) s at t ≡ elim b as (λ (x : Bool). Took (List A)) [ true ↦ going_on (take s at t) | false ↦ single (take s at t) ]
   unfolding joined
   joined_by b e = ap (λ (x : Bool). elim x as (λ (y : Bool). Took (List A)) [ true ↦ going_on (take s at t) | false ↦ single (take s at t) ]) e
@@ -38,35 +38,6 @@ module _ (n : ℕ) (seen : List Bool) (at : ℕ) (t : List ℕ) where
   pub parts_last : parts_at zero seen at t ≡ single (part_at seen at t)
   unfolding parts_at joined
   parts_last = refl
-
-module _ (signs : Bool) (n at : ℕ) (t : List ℕ) where
-  pub entries_on : goes_on comma (entry_at signs at t) ≡ true
-      → entries_at signs (suc n) at t
-      ≡ after (entry_at signs at t).value (entries_at signs n ((entry_at signs at t).place + 1) (behind (entry_at signs at t).rest))
-  unfolding entries_at
-  entries_on e = joined_by (λ (u : Unit {0}). entry_at signs) stays comma n tt at t true e
-
-  pub entries_off : goes_on comma (entry_at signs at t) ≡ false → entries_at signs (suc n) at t ≡ single (entry_at signs at t)
-  unfolding entries_at
-  entries_off e = joined_by (λ (u : Unit {0}). entry_at signs) stays comma n tt at t false e
-
-  pub entries_last : entries_at signs zero at t ≡ single (entry_at signs at t)
-  unfolding entries_at joined
-  entries_last = refl
-
-module _ (n at : ℕ) (t : List ℕ) where
-  pub days_on : goes_on comma (day_at at t) ≡ true
-      → days_at (suc n) at t ≡ after (day_at at t).value (days_at n ((day_at at t).place + 1) (behind (day_at at t).rest))
-  unfolding days_at
-  days_on e = joined_by (λ (u : Unit {0}). day_at) stays comma n tt at t true e
-
-  pub days_off : goes_on comma (day_at at t) ≡ false → days_at (suc n) at t ≡ single (day_at at t)
-  unfolding days_at
-  days_off e = joined_by (λ (u : Unit {0}). day_at) stays comma n tt at t false e
-
-  pub days_last : days_at zero at t ≡ single (day_at at t)
-  unfolding days_at joined
-  days_last = refl
 
 -- ---- a reader that begins within a text
 
