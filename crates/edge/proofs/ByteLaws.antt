@@ -2,14 +2,16 @@
 -- Assumes nothing.
 use Prim.Native.Nat.{ℕ, suc, ◌+◌, ◌-◌, ◌/◌, ◌%◌, ◌≤◌, ◌<◌}
 use mathlib.Core.Path.{◌≡◌, refl, sym, ap, ◌∙◌}
-use mathlib.Core.Bool.{Bool, true, false, ◌&&◌}
+use mathlib.Core.Bool.{Bool, true, false, ◌&&◌, cond}
 use mathlib.Core.List.{List, [], ◌∷◌, ◌++◌, append-nil, append_assoc}
 use native.Mathlib.Omega.{arith}
 use native.Mathlib.Numerals.{add-one}
-use lib.Dec.{leb}
+use lib.Dec.{leb, ltb, eqb}
 use lib.ListN.{length, get_or, set, take, drop, drop_of_length-le}
 use lib.Seq.{sets, sets-eq, drop-cons, take-suc-set, take_all}
-use borrow.Author.Tests.{leb-true, le-leb}
+use borrow.Author.Tests.{leb-true, le-leb, ltb-true, ltb-false}
+use Rattle.std.proofs.Common.{Less, Equal, Greater, nat_cmp, is_lt}
+use Rattle.std.specs.Ordering.{ord_max}
 use Rattle.rule.specs.Lists.{flags}
 use Rattle.edge.specs.Bytes.{two, four, eight, are_flags, flag_byte, flag_bytes}
 
@@ -64,19 +66,27 @@ and-false true = refl
 and-false false = refl
 
 -- the higher of two bytes is a flag where both are
-pub higher_second : (a b : ℕ) → a < b → leb b 1 ≡ leb a 1 && leb b 1
+higher_second : (a b : ℕ) → a ≤ b → leb b 1 ≡ leb a 1 && leb b 1
 higher_second a b h = go (leb b 1) refl
   where
     go : (t : Bool) → leb b 1 ≡ t → leb b 1 ≡ leb a 1 && leb b 1
     go true e = let l : b ≤ 1 = leb-true b 1 e in rw (le-leb a 1 (omega arith))
     go false e = rw e (sym (and-false (leb a 1)))
 
-pub higher_first : (a b : ℕ) → b ≤ a → leb a 1 ≡ leb a 1 && leb b 1
+higher_first : (a b : ℕ) → b < a → leb a 1 ≡ leb a 1 && leb b 1
 higher_first a b h = go (leb a 1) refl
   where
     go : (t : Bool) → leb a 1 ≡ t → leb a 1 ≡ leb a 1 && leb b 1
     go true e = let l : a ≤ 1 = leb-true a 1 e in rw (e, le-leb b 1 (omega arith))
     go false e = rw e
+
+pub higher_is : (a b : ℕ) → leb (ord_max nat_cmp a b) 1 ≡ leb a 1 && leb b 1
+higher_is a b = go (ltb b a) (eqb b a) refl
+  where
+    go : (t u : Bool) → ltb b a ≡ t → leb (cond (is_lt (cond t Less (cond u Equal Greater))) a b) 1 ≡ leb a 1 && leb b 1
+    go true u e = higher_first a b (ltb-true b a e)
+    go false true e = higher_second a b (ltb-false b a e)
+    go false false e = higher_second a b (ltb-false b a e)
 
 pub flags_next : (highest next : ℕ) (bytes : List ℕ) (i : ℕ) → i < length bytes → leb next 1 ≡ leb highest 1 && leb (get_or bytes i 0) 1
     → leb highest 1 && are_flags (drop i bytes) ≡ leb next 1 && are_flags (drop (i + 1) bytes)

@@ -7,10 +7,6 @@ use mathlib.Core.List.{List}
 use Rattle.calendar.proofs.AsksNothing.{AsksNothing, nothing_asked}
 use Rattle.calendar.proofs.Determines.{Determines, DeterminesBuffer, one_answer}
 use Rattle.cursor_layout.specs.Lengths.{Put}
-use Rattle.record_layout.proofs.record.count_from.Kinds as count-from-kinds
-use Rattle.record_layout.proofs.record.count_from.Reads as count-from
-use Rattle.record_layout.proofs.record.until_from.Kinds as until-from-kinds
-use Rattle.record_layout.proofs.record.until_from.Reads as until-from
 use Rattle.record_layout.proofs.record.is_record_bytes.Kinds as is-record-bytes-kinds
 use Rattle.record_layout.proofs.record.is_record_bytes.Reads as is-record-bytes
 use Rattle.record_layout.proofs.record.record_in.Kinds as record-in-kinds
@@ -18,33 +14,21 @@ use Rattle.record_layout.proofs.record.record_in.Reads as record-in
 use Rattle.record_layout.proofs.record.put_record.Kinds as put-record-kinds
 use Rattle.record_layout.proofs.record.put_record.Reads as put_record
 
-pub count_from_has_one : Determines 0 count-from-kinds.ps count-from-kinds.r count-from.Post
-count_from_has_one κs a x y e f = one_answer
-
-pub until_from_has_one : Determines 0 until-from-kinds.ps until-from-kinds.r until-from.Post
-until_from_has_one κs a x y e f = one_answer
-
 pub is_record_bytes_has_one : Determines 1 is-record-bytes-kinds.ps is-record-bytes-kinds.r is-record-bytes.Post
 is_record_bytes_has_one κs a x y e f = one_answer
 
 pub record_in_has_one : Determines 1 record-in-kinds.ps record-in-kinds.r record-in.Post
 record_in_has_one κs a x y e f = one_answer
 
-pub put_record_has_one : DeterminesBuffer 1 put-record-kinds.ps put-record-kinds.r (List ℕ) (λ κs e. e.1.0.now) put_record.Post
+pub put_record_has_one : DeterminesBuffer 2 put-record-kinds.ps put-record-kinds.r (List ℕ) (λ κs e. e.1.0.now) put_record.Post
 put_record_has_one κs a x y e f p q = (ap (λ (z : Put). z.written) (one_answer p q), ap (λ (z : Put). z.bytes) (one_answer p q))
 
 -- and none asks anything of its callers
-pub count_from_asks_nothing : AsksNothing 0 count-from-kinds.ps count-from.requires
-count_from_asks_nothing κs a = nothing_asked
-
-pub until_from_asks_nothing : AsksNothing 0 until-from-kinds.ps until-from.requires
-until_from_asks_nothing κs a = nothing_asked
-
 pub is_record_bytes_asks_nothing : AsksNothing 1 is-record-bytes-kinds.ps is-record-bytes.requires
 is_record_bytes_asks_nothing κs a = nothing_asked
 
 pub record_in_asks_nothing : AsksNothing 1 record-in-kinds.ps record-in.requires
 record_in_asks_nothing κs a = nothing_asked
 
-pub put_record_asks_nothing : AsksNothing 1 put-record-kinds.ps put_record.requires
+pub put_record_asks_nothing : AsksNothing 2 put-record-kinds.ps put_record.requires
 put_record_asks_nothing κs a = nothing_asked

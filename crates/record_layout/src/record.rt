@@ -1,102 +1,18 @@
 // A record as bytes: the version, 26 bytes of numbers, then one byte for each flag of each set.
 ghost use Rattle.std.specs.Prelude.{◌≡◌, ◌≤◌, [], length};
 ghost use Rattle.std.proofs.lemmas.List.Edits.{sets};
-ghost use Rattle.rule.specs.Filling.{frequency};
-ghost use Rattle.edge.specs.Layout.{count_tag, count_number, until_tag, until_number, count_from, until_from, is_tagged, head_bytes, day_bytes, time_bytes};
+ghost use Rattle.edge.specs.Layout.{is_tagged, head_bytes, day_bytes, time_bytes};
 ghost use Rattle.edge.specs.Layout.{record_length, encode_record, record_in, is_record_bytes};
 ghost use Rattle.cursor_layout.specs.Lengths.{of_length, put, put_to};
 
-use crate::flags::{
-    are_flags, flags_12, flags_24, flags_60, flags_62, flags_106, flags_732, flags_749, put_flags,
-};
-use basics::rrule::frequency_number;
+use crate::flags::{are_flags, flags, put_flags};
+use basics::rrule::{frequency_number, frequency_of};
 use cursor_layout::numbers::{put_1, put_2, put_4, put_8, read_2, read_4, read_8};
 use rule::rrule::{Frequency, Rule};
 
 const RECORD_LENGTH: usize = 2564;
 
 const RECORD_VERSION: u8 = 1;
-
-fn frequency_of(number: u8) -> Frequency
-    ensures { result ≡ frequency number }
-{
-    if number == 0 {
-        return Frequency::Yearly;
-    }
-    if number == 1 {
-        return Frequency::Monthly;
-    }
-    if number == 2 {
-        return Frequency::Weekly;
-    }
-    if number == 3 {
-        return Frequency::Daily;
-    }
-    if number == 4 {
-        return Frequency::Hourly;
-    }
-    if number == 5 {
-        return Frequency::Minutely;
-    }
-    Frequency::Secondly
-}
-
-fn count_tag(count: Option<u32>) -> u8
-    ensures { result ≡ count_tag count }
-{
-    match count {
-        None => 0,
-        Some(_) => 1,
-    }
-}
-
-fn count_number(count: Option<u32>) -> u32
-    ensures { result ≡ count_number count }
-{
-    match count {
-        None => 0,
-        Some(n) => n,
-    }
-}
-
-fn until_tag(until: Option<u64>) -> u8
-    ensures { result ≡ until_tag until }
-{
-    match until {
-        None => 0,
-        Some(_) => 1,
-    }
-}
-
-fn until_number(until: Option<u64>) -> u64
-    ensures { result ≡ until_number until }
-{
-    match until {
-        None => 0,
-        Some(t) => t,
-    }
-}
-
-// COUNT and UNTIL from a tag and a number: absent where the tag is 0.
-pub fn count_from(tag: u8, number: u32) -> Option<u32>
-    ensures { result ≡ count_from tag number }
-{
-    if tag == 0 {
-        None
-    } else {
-        Some(number)
-    }
-}
-
-pub fn until_from(tag: u8, number: u64) -> Option<u64>
-    ensures { result ≡ until_from tag number }
-{
-    if tag == 0 {
-        None
-    } else {
-        Some(number)
-    }
-}
 
 // Whether a tag and its number are such as are written: absent has one form only.
 fn is_tagged(tag: u8, number: u64) -> bool
@@ -115,22 +31,13 @@ pub fn is_record_bytes(bytes: &[u8]) -> bool
     let until = read_8(bytes, 10);
     (bytes[0] == RECORD_VERSION)
         & ((bytes[1] <= 6)
-            & (is_tagged(bytes[4], count) & (is_tagged(bytes[9], until) & are_flags(bytes, 27))))
+            & (is_tagged(bytes[4], count) & (is_tagged(bytes[9], until) & are_flags(&bytes[27..]))))
 }
 
 // What bytes of another length are read as: the record of no bytes at all.
 fn record_of_none() -> Rule
     ensures { result ≡ record_in [] }
 {
-    let bymonth = [false; 12];
-    let bymonthday = [false; 62];
-    let byyearday = [false; 732];
-    let byweekno = [false; 106];
-    let byday = [false; 749];
-    let byhour = [false; 24];
-    let byminute = [false; 60];
-    let bysecond = [false; 60];
-    let bysetpos = [false; 732];
     Rule {
         freq: Frequency::Yearly,
         interval: 0,
@@ -138,15 +45,15 @@ fn record_of_none() -> Rule
         until: None,
         wkst: 0,
         start: 0,
-        bymonth,
-        bymonthday,
-        byyearday,
-        byweekno,
-        byday,
-        byhour,
-        byminute,
-        bysecond,
-        bysetpos,
+        bymonth: [false; 12],
+        bymonthday: [false; 62],
+        byyearday: [false; 732],
+        byweekno: [false; 106],
+        byday: [false; 749],
+        byhour: [false; 24],
+        byminute: [false; 60],
+        bysecond: [false; 60],
+        bysetpos: [false; 732],
     }
 }
 
@@ -157,66 +64,44 @@ pub fn record_in(bytes: &[u8]) -> Rule
     if bytes.len() != RECORD_LENGTH {
         return record_of_none();
     }
-    let freq = frequency_of(bytes[1]);
-    let interval = read_2(bytes, 2) as u16;
-    let count = count_from(bytes[4], read_4(bytes, 5) as u32);
-    let until = until_from(bytes[9], read_8(bytes, 10));
-    let wkst = bytes[18];
-    let start = read_8(bytes, 19);
-    let bymonth = flags_12(bytes, 27);
-    let bymonthday = flags_62(bytes, 39);
-    let byyearday = flags_732(bytes, 101);
-    let byweekno = flags_106(bytes, 833);
-    let byday = flags_749(bytes, 939);
-    let byhour = flags_24(bytes, 1688);
-    let byminute = flags_60(bytes, 1712);
-    let bysecond = flags_60(bytes, 1772);
-    let bysetpos = flags_732(bytes, 1832);
     Rule {
-        freq,
-        interval,
-        count,
-        until,
-        wkst,
-        start,
-        bymonth,
-        bymonthday,
-        byyearday,
-        byweekno,
-        byday,
-        byhour,
-        byminute,
-        bysecond,
-        bysetpos,
+        freq: frequency_of(bytes[1]),
+        interval: read_2(bytes, 2) as u16,
+        count: (bytes[4] != 0).then_some(read_4(bytes, 5) as u32),
+        until: (bytes[9] != 0).then_some(read_8(bytes, 10)),
+        wkst: bytes[18],
+        start: read_8(bytes, 19),
+        bymonth: flags(bytes, 27),
+        bymonthday: flags(bytes, 39),
+        byyearday: flags(bytes, 101),
+        byweekno: flags(bytes, 833),
+        byday: flags(bytes, 939),
+        byhour: flags(bytes, 1688),
+        byminute: flags(bytes, 1712),
+        bysecond: flags(bytes, 1772),
+        bysetpos: flags(bytes, 1832),
     }
 }
 
-fn put_head(
-    freq: Frequency,
-    interval: u16,
-    count: Option<u32>,
-    until: Option<u64>,
-    wkst: u8,
-    start: u64,
-    bytes: &mut [u8],
-)
+// Writes the numbers of a record.
+fn put_head(rule: &Rule, bytes: &mut [u8])
     requires { 27 ≤ length bytes.old }
-    ensures { bytes.new ≡ sets bytes.old 1 (head_bytes freq interval count until wkst start) }
+    ensures { bytes.new ≡ sets bytes.old 1 (head_bytes rule.now.freq rule.now.interval rule.now.count rule.now.until rule.now.wkst rule.now.start) }
 {
-    put_1(bytes, 1, frequency_number(freq));
-    put_2(bytes, 2, interval);
-    put_1(bytes, 4, count_tag(count));
-    put_4(bytes, 5, count_number(count));
-    put_1(bytes, 9, until_tag(until));
-    put_8(bytes, 10, until_number(until));
-    put_1(bytes, 18, wkst);
-    put_8(bytes, 19, start);
+    put_1(bytes, 1, frequency_number(rule.freq));
+    put_2(bytes, 2, rule.interval);
+    put_1(bytes, 4, rule.count.is_some() as u8);
+    put_4(bytes, 5, rule.count.unwrap_or(0));
+    put_1(bytes, 9, rule.until.is_some() as u8);
+    put_8(bytes, 10, rule.until.unwrap_or(0));
+    put_1(bytes, 18, rule.wkst);
+    put_8(bytes, 19, rule.start);
 }
 
 // Writes the sets of months, days and weeks.
-fn put_days(rule: Rule, bytes: &mut [u8])
+fn put_days(rule: &Rule, bytes: &mut [u8])
     requires { 1688 ≤ length bytes.old }
-    ensures { (bytes.new ≡ sets bytes.old 27 (day_bytes rule)) × (length (day_bytes rule) ≡ 1661) }
+    ensures { (bytes.new ≡ sets bytes.old 27 (day_bytes rule.now)) × (length (day_bytes rule.now) ≡ 1661) }
 {
     put_flags(&rule.bymonth, bytes, 27);
     put_flags(&rule.bymonthday, bytes, 39);
@@ -226,9 +111,9 @@ fn put_days(rule: Rule, bytes: &mut [u8])
 }
 
 // Writes the sets of hours, minutes and seconds, and the positions.
-fn put_times(rule: Rule, bytes: &mut [u8])
+fn put_times(rule: &Rule, bytes: &mut [u8])
     requires { 2564 ≤ length bytes.old }
-    ensures { (bytes.new ≡ sets bytes.old 1688 (time_bytes rule)) × (length (time_bytes rule) ≡ 876) }
+    ensures { (bytes.new ≡ sets bytes.old 1688 (time_bytes rule.now)) × (length (time_bytes rule.now) ≡ 876) }
 {
     put_flags(&rule.byhour, bytes, 1688);
     put_flags(&rule.byminute, bytes, 1712);
@@ -237,25 +122,14 @@ fn put_times(rule: Rule, bytes: &mut [u8])
 }
 
 // Writes a record, and answers whether the bytes have its length; others are left as they were.
-pub fn put_record(rule: Rule, bytes: &mut [u8]) -> bool
-    ensures { put result bytes.new ≡ put_to record_length (encode_record rule) bytes.old }
+pub fn put_record(rule: &Rule, bytes: &mut [u8]) -> bool
+    ensures { put result bytes.new ≡ put_to record_length (encode_record rule.now) bytes.old }
 {
     if bytes.len() != RECORD_LENGTH {
         return false;
     }
-    let freq = rule.freq;
-    let count = rule.count;
-    let until = rule.until;
     put_1(bytes, 0, RECORD_VERSION);
-    put_head(
-        freq,
-        rule.interval,
-        count,
-        until,
-        rule.wkst,
-        rule.start,
-        bytes,
-    );
+    put_head(rule, bytes);
     put_days(rule, bytes);
     put_times(rule, bytes);
     true

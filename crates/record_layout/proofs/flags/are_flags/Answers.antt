@@ -1,20 +1,21 @@
 -- `record_layout::flags::are_flags` meets its contract: what is left decides, if the highest byte so far is a flag.
 -- Assumes nothing.
-use Rattle.std.proofs.Common.{rules}
-use mathlib.Core.Path.{refl, sym, ◌∙◌}
-use Rattle.edge.proofs.ByteLaws.{flags_next, flags_done}
+use Rattle.std.proofs.Common.{rules, ◌≡◌, refl, sym, ap, ◌∙◌, ℕ, ◌&&◌, leb, get_or}
+use Rattle.edge.proofs.ByteLaws.{flags_next, flags_done, higher_is}
 use Rattle.record_layout.proofs.flags.are_flags.Goals as goal
 
-pub loop-i-init : goal.loop-i-init
-loop-i-init c = (search rules, refl)
+pub loop-byte-init : goal.loop-byte-init
+loop-byte-init c = (search rules, refl)
 
-pub loop-i-preserved : goal.loop-i-preserved
-loop-i-preserved c =
-    let l = c in
-    let bytes = l.args.bytes.now in
-    (search rules, l.loop-i.invariant.1 ∙ flags_next l.loop-i.highest c.higher-highest.result bytes l.loop-i.i (search rules) c.higher-highest.ensures)
+pub loop-byte-preserved : goal.loop-byte-preserved
+loop-byte-preserved c =
+    let l = c.loop-byte in
+    let bytes = c.args.bytes.now in
+    let higher : leb c.max-highest.result 1 ≡ leb l.highest 1 && leb (get_or bytes l.byte-index 0) 1 =
+    ap (λ (x : ℕ). leb x 1) c.max-highest.ensures ∙ higher_is l.highest (get_or bytes l.byte-index 0) in
+    (search rules, l.invariant.1 ∙ flags_next l.highest c.max-highest.result bytes l.byte-index (search rules) higher)
 
 pub returns : goal.returns
 returns c =
-    let l = c in
-    sym (l.loop-i.invariant.1 ∙ flags_done l.loop-i.highest l.args.bytes.now l.loop-i.i (search rules))
+    let l = c.loop-byte in
+    sym (l.invariant.1 ∙ flags_done l.highest c.args.bytes.now l.byte-index (search rules))

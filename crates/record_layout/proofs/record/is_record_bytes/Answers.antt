@@ -1,5 +1,7 @@
 -- `record_layout::record::is_record_bytes` meets its contract.
 -- Assumes nothing.
+use Rattle.std.proofs.Common.{◌∙◌, ap, take_all, arith, length-drop}
+use Rattle.edge.specs.Bytes.{are_flags}
 use Rattle.edge.proofs.LayoutLaws.{record_length_lem, record_judged}
 use Rattle.record_layout.proofs.record.is_record_bytes.Goals as goal
 
@@ -8,9 +10,6 @@ returns-then-bytes-ne-RECORD_LENGTH c = record_length_lem c.args.bytes.now c.if-
 
 pub returns : goal.returns
 returns c =
-    let until = c in
-    let count = until in
-    let read = count in
-    record_judged read.args.bytes.now _ _ _ _ _ read.if-bytes-ne-RECORD_LENGTH.false
-    read.read_4-count.ensures.0 read.read_8-until.ensures
-    count.is_tagged.ensures until.is_tagged-2.ensures c.are_flags.ensures
+    record_judged c.args.bytes.now _ _ _ _ _ c.if-bytes-ne-RECORD_LENGTH.false
+    c.read_4-count.ensures.0 c.read_8-until.ensures
+    c.is_tagged.ensures c.is_tagged-2.ensures (c.are_flags.ensures ∙ ap are_flags (take_all _ _ (omega (arith, length-drop 27 c.args.bytes.now))))

@@ -1,19 +1,15 @@
 -- `record_layout::record::put_head` meets its contract.
 -- Assumes nothing.
+use Rattle.std.proofs.Common.{◌∙◌, ap}
+use mir.Val.{bool_byte}
 use Rattle.edge.proofs.LayoutLaws.{head_put}
+use Rattle.record_layout.proofs.OptionLaws.{tag_is, number_is}
 use Rattle.record_layout.proofs.record.put_head.Goals as goal
 
 pub returns : goal.returns
 returns c =
-    let start = c in
-    let wkst = start in
-    let until = wkst in
-    let bounded = until in
-    let count = bounded in
-    let counted = count in
-    let interval = counted in
-    let freq = interval in
-    head_put _ _ _ _ _ _ _ _ _ _ _ _ _ _ _ _ _ _ _ _ freq.frequency_number.ensures counted.count_tag.ensures
-    count.count_number.ensures bounded.until_tag.ensures until.until_number.ensures
-    freq.put_1.ensures interval.put_2.ensures counted.put_1-2.ensures count.put_4.ensures bounded.put_1-3.ensures
-    until.put_8.ensures wkst.put_1-4.ensures start.put_8-2.ensures
+    head_put _ _ _ _ _ _ _ _ _ _ _ _ _ _ _ _ _ _ _ _ c.frequency_number.ensures
+    (ap bool_byte c.is_some.ensures ∙ tag_is c.args.rule.now.count) (c.unwrap_or.ensures ∙ number_is c.args.rule.now.count)
+    (ap bool_byte c.is_some-2.ensures ∙ tag_is c.args.rule.now.until) (c.unwrap_or-2.ensures ∙ number_is c.args.rule.now.until)
+    c.put_1.ensures c.put_2.ensures c.put_1-2.ensures c.put_4.ensures c.put_1-3.ensures
+    c.put_8.ensures c.put_1-4.ensures c.put_8-2.ensures

@@ -14,12 +14,6 @@ returns-then-bytes-ne-RECORD_LENGTH c = put_nothing 2564 _ _ c.if-bytes-ne-RECOR
 
 pub returns : goal.returns
 returns c =
-    let times = c in
-    let days = times in
-    let head = days in
-    let version = head in
-    let tested = version in
-    let a = tested.args in
-    ap (λ (x : List ℕ). put true x) (record_put a.rule a.bytes.now _ _ _ _ tested.if-bytes-ne-RECORD_LENGTH.false days.put_days.ensures.1
-    times.put_times.ensures.1 version.put_1.ensures head.put_head.ensures days.put_days.ensures.0 times.put_times.ensures.0)
-    ∙ put_whole 2564 _ _ tested.if-bytes-ne-RECORD_LENGTH.false
+    ap (λ (x : List ℕ). put true x) (record_put c.args.rule.now c.args.bytes.now _ _ _ _ c.if-bytes-ne-RECORD_LENGTH.false c.put_days.ensures.1
+    c.put_times.ensures.1 c.put_1.ensures c.put_head.ensures c.put_days.ensures.0 c.put_times.ensures.0)
+    ∙ put_whole 2564 _ _ c.if-bytes-ne-RECORD_LENGTH.false
