@@ -1,6 +1,6 @@
 -- Lists within a text, for any kind of entry: what a list comes to by its first entry.
 -- Assumes nothing.
-use Rattle.std.specs.Prelude.{Ok, IsOk, is_ok}
+use Rattle.std.specs.Prelude.{Ok}
 use Prim.Native.Nat.{ℕ, zero, suc, ◌+◌, ◌≤◌, ◌<◌}
 use native.Mathlib.Numerals.{add-one}
 use mathlib.Core.Path.{◌≡◌, refl, sym, ap, ◌∙◌}
@@ -9,7 +9,7 @@ use mathlib.Core.List.{List, map}
 use lib.ListN.{length, drop}
 use lib.IntN.{ℤ}
 use Rattle.symbols.specs.Languages.{Both}
-use Rattle.symbols.specs.Takes.{Took, took}
+use Rattle.symbols.specs.Takes.{Took}
 use Rattle.symbols.specs.Readers.{head_is, behind, single, after, goes_on, joined, turned, turned_into}
 use Rattle.recur.specs.declared.Symbol.{Symbol}
 use Rattle.recur.specs.Grammar.{comma, stays}
@@ -120,10 +120,6 @@ pub past_comma : (t : List ℕ) (place : ℕ) {more : Bool} → more ≡ head_is
 past_comma t place e b = (stands comma t place (sym e ∙ b)).inside
 
 -- ---- what the code's types show
-
--- a whole symbol is answered
-pub is_shown : {A : Type 0} (k : Took A) → k.whole ≡ true → IsOk (shown k)
-is_shown {A} k w = ap (λ (b : Bool). is_ok (shown (took b k.place k.rest k.value))) w
 
 module _ (take : ℕ → List ℕ → Took ℤ) (t : List ℕ) (at : ℕ) {e : Symbol ℤ} (d : Ok e ≡ shown (take at (drop at t))) where
   pub seen : Seen take t at true e.place

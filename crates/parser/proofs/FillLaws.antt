@@ -1,5 +1,6 @@
 -- A rule's outline and its lists, from what the code has of each.
 -- Assumes nothing.
+use Rattle.std.specs.Prelude.{Option, Ok, Err}
 use Prim.Native.Nat.{ℕ}
 use mathlib.Core.Path.{◌≡◌, refl, ap}
 use mathlib.Core.List.{List}
@@ -8,35 +9,32 @@ use lib.Seq.{sets}
 use lib.IntN.{ℤ}
 use Rattle.rule.specs.Raw.{RawLists, Raw, raw_lists}
 use Rattle.recur.specs.declared.Outline.{Outline}
-use Rattle.recur.specs.declared.Reading.{Reading}
-use Rattle.recur.specs.Reading.{rule, refused, read_of}
+use Rattle.recur.specs.Reading.{read_of}
 use Rattle.recur.specs.Shown.{outline_of, reading_of, filled_with, lists_left}
-use Rattle.parser.specs.declared.rule_content_line.Numbers.{Numbers}
-use Rattle.parser.specs.declared.rule_content_line.Counts.{Counts}
-use Rattle.parser.specs.Values.{numbers_of, date_counts, time_counts}
 
-abbrev outlined : Numbers → Counts → ℕ → Counts → Outline
-outlined n a d b = record {
-  freq = n.freq;
-  interval = n.interval;
-  count = n.count;
-  until = n.until;
-  wkst = n.wkst;
-  bymonth = a.first;
-  bymonthday = a.second;
-  byyearday = a.third;
-  byweekno = a.fourth;
-  byday = d;
-  byhour = b.first;
-  byminute = b.second;
-  bysecond = b.third;
-  bysetpos = b.fourth;
-}
-
-pub outline_is : (w : Raw) (n : Numbers) (a : Counts) (d : ℕ) (b : Counts) → n ≡ numbers_of w
-    → a ≡ date_counts w.lists → d ≡ length w.lists.bydayn
-    → b ≡ time_counts w.lists → outlined n a d b ≡ outline_of w
-outline_is w n a d b e f g h = rw (e, f, g, h)
+-- an outline has what the rule has
+pub outline_is : (w : Raw) {freq interval : ℕ} {count until : Option ℕ} {wkst bymonth bymonthday byyearday byweekno byday byhour byminute bysecond bysetpos : ℕ}
+    → freq ≡ w.freq → interval ≡ w.interval → count ≡ w.count → until ≡ w.until → wkst ≡ w.wkst
+    → bymonth ≡ length w.lists.bymonth → bymonthday ≡ length w.lists.bymonthday → byyearday ≡ length w.lists.byyearday
+    → byweekno ≡ length w.lists.byweekno → byday ≡ length w.lists.bydayn → byhour ≡ length w.lists.byhour
+    → byminute ≡ length w.lists.byminute → bysecond ≡ length w.lists.bysecond → bysetpos ≡ length w.lists.bysetpos
+    → ◌≡◌ {A = Outline} (record {
+      freq = freq;
+      interval = interval;
+      count = count;
+      until = until;
+      wkst = wkst;
+      bymonth = bymonth;
+      bymonthday = bymonthday;
+      byyearday = byyearday;
+      byweekno = byweekno;
+      byday = byday;
+      byhour = byhour;
+      byminute = byminute;
+      bysecond = bysecond;
+      bysetpos = bysetpos;
+    }) (outline_of w)
+outline_is w a b c d e f g h i j k l m n = cc
 
 -- each list has its entries in its first slots
 module _ (w l : RawLists) {bymonth bymonthday byyearday byweekno bydayn bydayw byhour byminute bysecond bysetpos : List ℤ} where
@@ -55,10 +53,10 @@ module _ (w l : RawLists) {bymonth bymonthday byyearday byweekno bydayn bydayw b
 
 -- ---- what the reader answers and leaves
 
-pub left_refused : (t : List ℕ) (n : ℕ) (l : RawLists) → read_of t ≡ refused n
-    → (Reading.Refused n ≡ reading_of (read_of t)) × (l ≡ lists_left (read_of t) l)
+pub left_refused : (t : List ℕ) (n : ℕ) (l : RawLists) → read_of t ≡ Err n
+    → (Err n ≡ reading_of (read_of t)) × (l ≡ lists_left (read_of t) l)
 left_refused t n l e = rw e (refl, refl)
 
-pub left_rule : (t : List ℕ) (w : Raw) (l m : RawLists) (o : Outline) → read_of t ≡ rule w → (o ≡ outline_of w) × (m ≡ filled_with l w.lists)
-    → (Reading.Rule o ≡ reading_of (read_of t)) × (m ≡ lists_left (read_of t) l)
-left_rule t w l m o e f = rw e (ap (λ (x : Outline). Reading.Rule x) f.0, f.1)
+pub left_rule : (t : List ℕ) (w : Raw) (l m : RawLists) (o : Outline) → read_of t ≡ Ok w → (o ≡ outline_of w) × (m ≡ filled_with l w.lists)
+    → (Ok o ≡ reading_of (read_of t)) × (m ≡ lists_left (read_of t) l)
+left_rule t w l m o e f = rw e (ap (λ (x : Outline). Ok x) f.0, f.1)

@@ -3,16 +3,14 @@
 -- Assumes nothing.
 use Rattle.calendar.proofs.AsksNothing.{AsksNothing, nothing_asked}
 use Rattle.calendar.proofs.Determines.{DeterminesBuffer, one_answer}
-use Rattle.rule.specs.Raw.{RawLists, raw_lists}
+use Rattle.rule.specs.Raw.{RawLists}
+use Rattle.recur.specs.Shown.{slots_of}
 use Rattle.parser.proofs.rule_content_line.read.Kinds as read-kinds
 use Rattle.parser.proofs.rule_content_line.read.Reads as read
 
-pub read_has_one : DeterminesBuffer 11 read-kinds.ps read-kinds.r RawLists
-    (λ κs e. raw_lists e.1.0.now e.1.1.0.now e.1.1.1.0.now e.1.1.1.1.0.now e.1.1.1.1.1.0.now
-    e.1.1.1.1.1.1.0.now e.1.1.1.1.1.1.1.0.now e.1.1.1.1.1.1.1.1.0.now e.1.1.1.1.1.1.1.1.1.0.now
-    e.1.1.1.1.1.1.1.1.1.1.0.now) read.Post
+pub read_has_one : DeterminesBuffer 2 read-kinds.ps read-kinds.r RawLists (λ κs e. slots_of e.1.0.now) read.Post
 read_has_one κs a x y e f p q = (one_answer p.0 q.0, one_answer p.1 q.1)
 
 -- and it asks nothing of its callers
-pub read_asks_nothing : AsksNothing 11 read-kinds.ps read.requires
+pub read_asks_nothing : AsksNothing 2 read-kinds.ps read.requires
 read_asks_nothing κs a = nothing_asked

@@ -1,6 +1,6 @@
 -- The scan's step: a name, the value behind it, and where it goes on.
 -- Assumes nothing.
-use Rattle.std.specs.Prelude.{if◌then◌else◌}
+use Rattle.std.specs.Prelude.{Ok, Err}
 use Prim.Native.Nat.{ℕ, zero, suc, ◌+◌, ◌≤◌, ◌<◌}
 use native.Mathlib.Omega.{arith}
 use mathlib.Core.Path.{◌≡◌, refl, sym, ap, ◌∙◌, subst}
@@ -11,21 +11,17 @@ use lib.Dec.{ltb}
 use borrow.Author.Tests.{lt-ltb}
 use Rattle.symbols.specs.Takes.{Took}
 use Rattle.symbols.specs.Readers.{single, head_is, goes_on}
-use Rattle.recur.specs.declared.Reached.{Reached}
-use Rattle.recur.specs.declared.Stopped.{Stopped}
+use Rattle.recur.specs.declared.Symbol.{Symbol}
 use Rattle.recur.specs.Grammar.{Part, semicolon}
 use Rattle.recur.specs.Reading.{parts_at}
 use Rattle.recur.specs.Places.{used_by, places_at}
 use Rattle.recur.specs.Shown.{stopped, shown}
 use Rattle.recur.proofs.Parted.{parts_off, parts_last}
-use Rattle.recur.proofs.Scanned.{part_stopped, placed_whole, placed_stopped, places_off, places_last}
+use Rattle.recur.proofs.ShownLaws.{symbol, whole_is, place_is, value_is, not_whole, stop_is, ends_whole, ends_there, halts_short, halts_there}
+use Rattle.recur.proofs.Scanned.{part_stopped, placed_whole, places_off, places_last}
 use Rattle.recur.proofs.Named.{name_in, NameRead, name_read}
 use Rattle.recur.proofs.Onward.{part_in, places_next, value_behind, part_read, part_read_lem, next_in, parts_onward, places_onward}
-use Rattle.parser.specs.declared.rule_content_line.Scanned.{Scanned}
-use Rattle.parser.specs.Scans.{stop_at, scan_from}
-
-abbrev pub scanned : Bool → ℕ → List ℕ → Scanned
-scanned whole place places = record { whole = whole; place = place; places = places }
+use Rattle.parser.specs.Scans.{stop_at, scanned, scan_from}
 
 -- by what the parts and the places come to
 scan_by : (n : ℕ) (places : List ℕ) (at : ℕ) (t qs : List ℕ) (k : Took (List Part)) → parts_at n (used_by places) at (drop at t) ≡ k
@@ -74,72 +70,85 @@ pub record Goes (t : List ℕ) (n : ℕ) (places : List ℕ) (at m : ℕ) (place
   pub within : place ≤ length t
   pub same : scan_from n places at t ≡ scan_from m placed place t
 
+-- no whole name is read at a place: there the scan stops
+module _ (places : List ℕ) (at : ℕ) (t : List ℕ) where
+  pub scan_stops : (n p : ℕ) → Err p ≡ shown (name_in (used_by places) at t) → Err p ≡ scan_from n places at t
+  scan_stops n p e =
+      let k = name_in (used_by places) at t in
+      let f : k.whole ≡ false = not_whole (λ (v : ℕ). v) k p e in
+      let s = part_stopped (used_by places) at (drop at t) f in
+      sym (scan_last n places at t (rw s (and-false (ltb 0 n)))
+      ∙ ap (λ (x : Took Part). scanned x.whole x.place (places_next places at t)) s ∙ ap (λ (q : ℕ). Err q) (sym (stop_is (λ (v : ℕ). v) k p e)))
+
 -- the name that the code has read at a place
 module _ (places : List ℕ) (at : ℕ) (t : List ℕ) (l : length places ≡ 14) (h : at ≤ length t)
-    (name : Reached) (e : name ≡ shown (name_in (used_by places) at t)) where
-  place_is : name.place ≡ (name_in (used_by places) at t).place
-  place_is = ap (λ (k : Reached). k.place) e
+    (name : Symbol ℕ) (e : Ok name ≡ shown (name_in (used_by places) at t)) where
+  place_lem : name.place ≡ (name_in (used_by places) at t).place
+  place_lem = place_is (λ (v : ℕ). v) (name_in (used_by places) at t) name e
 
-  -- it isn't whole: there the scan stops
-  pub scan_stops : (n : ℕ) → name.whole ≡ false → scanned false name.place places ≡ scan_from n places at t
-  scan_stops n w =
-      let f : (name_in (used_by places) at t).whole ≡ false = sym (ap (λ (k : Reached). k.whole) e) ∙ w in
-      let s = part_stopped (used_by places) at (drop at t) f in
-      sym (scan_last n places at t (rw s (and-false (ltb 0 n))) ∙ rw s (rw (placed_stopped places (name_in (used_by places) at t) f, place_is)))
+  name_whole : (name_in (used_by places) at t).whole ≡ true
+  name_whole = whole_is (λ (v : ℕ). v) (name_in (used_by places) at t) name e
+
+  value_lem : name.value ≡ (name_in (used_by places) at t).value
+  value_lem = value_is (λ (v : ℕ). v) (name_in (used_by places) at t) name e
+
+  read : NameRead (used_by places) at t
+  read = name_read (used_by places) at t (length-map places (ltb 0) ∙ l) h name_whole
+
+  -- one of the fourteen; its value stands within the text
+  pub name_there : name.value < 14
+  name_there = rw value_lem read.there
+
+  pub name_within : name.place ≤ length t
+  name_within = rw place_lem read.within
+
+  next : places_next places at t ≡ set places name.value name.place
+  next = placed_whole places (name_in (used_by places) at t) name_whole ∙ rw (value_lem, place_lem)
+
+  part : part_in places at t ≡ part_read (used_by places) at t
+  part = part_read_lem (used_by places) at t name_whole read
+
+  part_rest : (part_in places at t).rest ≡ drop (part_in places at t).place t
+  part_rest = ap (λ (k : Took Part). k.rest) part ∙ sym (ap (λ (k : Took Part). drop k.place t) part)
+
+  -- and the value behind it
+  behind : stop_at name.value name.place t ≡ stopped (part_in places at t)
+  unfolding stop_at
+  behind = rw (value_lem, place_lem) (sym (ap (λ (k : Took Part). stopped k) part))
+
+  -- that isn't whole: there the scan stops
+  pub scan_halts : (n p : ℕ) → Err p ≡ stop_at name.value name.place t → Err p ≡ scan_from n places at t
+  scan_halts n p f =
+      let k = part_in places at t in
+      let g : Err p ≡ stopped k = f ∙ behind in
+      let w : k.whole ≡ false = halts_short k p g in
+      let s : goes_on semicolon k ≡ false = ap (λ (b : Bool). b && head_is semicolon k.rest) w in
+      sym (scan_last n places at t (ap (λ (b : Bool). ltb 0 n && b) s ∙ and-false (ltb 0 n))
+      ∙ ap (λ (b : Bool). scanned b k.place (places_next places at t)) w ∙ ap (λ (q : ℕ). Err q) (sym (halts_there k p g)))
 
   -- it is whole
-  module _ (w : name.whole ≡ true) where
-    name_whole : (name_in (used_by places) at t).whole ≡ true
-    name_whole = sym (ap (λ (k : Reached). k.whole) e) ∙ w
+  module _ (place : ℕ) (f : Ok place ≡ stop_at name.value name.place t) where
+    place_part : (part_in places at t).place ≡ place
+    place_part = sym (ends_there (part_in places at t) place (f ∙ behind))
 
-    value_is : name.value ≡ (name_in (used_by places) at t).value
-    value_is =
-        ap (λ (k : Reached). k.value) e
-        ∙ ap (λ (b : Bool). if b then (name_in (used_by places) at t).value else 0) name_whole
+    whole_part : (part_in places at t).whole ≡ true
+    whole_part = ends_whole (part_in places at t) place (f ∙ behind)
 
-    read : NameRead (used_by places) at t
-    read = name_read (used_by places) at t (length-map places (ltb 0) ∙ l) h name_whole
+    goes_is : head_is semicolon (drop place t) ≡ goes_on semicolon (part_in places at t)
+    goes_is =
+        sym (ap (λ (b : Bool). b && head_is semicolon (part_in places at t).rest) whole_part
+        ∙ ap (λ (r : List ℕ). head_is semicolon r) part_rest ∙ ap (λ (p : ℕ). head_is semicolon (drop p t)) place_part)
 
-    -- one of the fourteen; its value stands within the text
-    pub name_there : name.value < 14
-    name_there = rw value_is read.there
+    abbrev pub goes_from : ℕ → Bool
+    goes_from n = ltb 0 n && head_is semicolon (drop place t)
 
-    pub name_within : name.place ≤ length t
-    name_within = rw place_is read.within
+    -- the scan ends with it
+    pub scan_ends : (n : ℕ) → goes_from n ≡ false → Ok (symbol place (set places name.value name.place)) ≡ scan_from n places at t
+    scan_ends n g =
+        sym (scan_last n places at t (ap (λ (b : Bool). ltb 0 n && b) (sym goes_is) ∙ g) ∙ rw (whole_part, place_part, next) refl)
 
-    next : places_next places at t ≡ set places name.value name.place
-    next = placed_whole places (name_in (used_by places) at t) name_whole ∙ rw (value_is, place_is)
-
-    -- and the value behind it, where the code has read that too
-    module _ (value : Stopped) (f : value ≡ stop_at name.value name.place t) where
-      behind : value ≡ stopped (value_behind (used_by places) at t)
-      unfolding stop_at
-      behind = f ∙ rw (value_is, place_is)
-
-      part : part_in places at t ≡ part_read (used_by places) at t
-      part = part_read_lem (used_by places) at t name_whole read
-
-      goes_is : (value.whole && head_is semicolon (drop value.place t)) ≡ goes_on semicolon (part_in places at t)
-      goes_is = ap (λ (s : Stopped). s.whole && head_is semicolon (drop s.place t)) behind ∙ sym (ap (λ (k : Took Part). goes_on semicolon k) part)
-
-      place_part : (part_in places at t).place ≡ value.place
-      place_part = ap (λ (k : Took Part). k.place) part ∙ sym (ap (λ (s : Stopped). s.place) behind)
-
-      whole_part : (part_in places at t).whole ≡ value.whole
-      whole_part = ap (λ (k : Took Part). k.whole) part ∙ sym (ap (λ (s : Stopped). s.whole) behind)
-
-      abbrev pub goes_from : ℕ → Bool
-      goes_from n = ltb 0 n && (value.whole && head_is semicolon (drop value.place t))
-
-      -- the scan ends with it
-      pub scan_ends : (n : ℕ) → goes_from n ≡ false
-          → scanned value.whole value.place (set places name.value name.place) ≡ scan_from n places at t
-      scan_ends n g =
-          sym (scan_last n places at t (ap (λ (b : Bool). ltb 0 n && b) (sym goes_is) ∙ g) ∙ rw (whole_part, place_part, next))
-
-      -- or goes on behind it
-      pub scan_goes : (n m : ℕ) → m + 1 ≡ n → goes_from n ≡ true
-          → Goes t n places at m (set places name.value name.place) (value.place + 1)
-      scan_goes n m s g =
-          let x = scan_next n m places at t s l h (ap (λ (b : Bool). ltb 0 n && b) (sym goes_is) ∙ g) in
-          record { within = subst (λ (p : ℕ). p + 1 ≤ length t) place_part x.0; same = x.1 ∙ rw (place_part, next) }
+    -- or goes on behind it
+    pub scan_goes : (n m : ℕ) → m + 1 ≡ n → goes_from n ≡ true → Goes t n places at m (set places name.value name.place) (place + 1)
+    scan_goes n m s g =
+        let x = scan_next n m places at t s l h (ap (λ (b : Bool). ltb 0 n && b) (sym goes_is) ∙ g) in
+        record { within = subst (λ (p : ℕ). p + 1 ≤ length t) place_part x.0; same = x.1 ∙ rw (place_part, next) }

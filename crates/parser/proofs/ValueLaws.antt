@@ -1,23 +1,23 @@
 -- What stands at a place, and what the code has read there.
 -- Assumes nothing.
-use Rattle.std.specs.Prelude.{if◌then◌else◌}
+use Rattle.std.specs.Prelude.{if◌then◌else◌, Result, Ok, IsOk}
 use Prim.Native.Nat.{ℕ, zero, suc, ◌≤◌, ◌<◌}
 use native.Mathlib.Omega.{arith}
 use mathlib.Core.Path.{◌≡◌, refl, sym, ap, ◌∙◌, subst⁻¹}
-use mathlib.Core.Bool.{Bool, true, ◌&&◌, ◌||◌}
+use mathlib.Core.Bool.{Bool, true, false, ◌&&◌, ◌||◌}
 use mathlib.Core.List.{List}
 use lib.ListN.{drop}
 use lib.Dec.{eqb, leb}
 use borrow.Author.Tests.{ne_eqb}
 use Rattle.calendar.proofs.Table.{same_below}
-use Rattle.symbols.specs.Takes.{Took, Takes}
+use Rattle.symbols.specs.Takes.{Took, took, Takes}
 use Rattle.symbols.specs.Readers.{turned_into}
-use Rattle.recur.specs.declared.Reached.{Reached}
-use Rattle.recur.specs.declared.Stopped.{Stopped}
+use Rattle.recur.specs.declared.Symbol.{Symbol}
 use Rattle.recur.specs.Grammar.{Value, absent, number, Kind, frequency, up_to_high, moment, weekday, entries, day_entries, kind_of}
 use Rattle.recur.specs.Reading.{value_at}
 use Rattle.recur.specs.Shown.{stopped, shown}
-use Rattle.parser.specs.Scans.{stop_at}
+use Rattle.recur.proofs.ShownLaws.{whole_is, value_is, is_shown}
+use Rattle.parser.specs.Scans.{place_of, stop_at}
 use Rattle.parser.specs.Values.{value_by, Standing}
 
 -- ---- a place is 0, or a value stands there
@@ -34,23 +34,23 @@ value_there k (suc p) t h = refl
 
 -- ---- a number that the code has read
 
--- where it is whole, the value is shown
-pub shown_value : (x : Took ℕ) (r : Reached) → r ≡ shown x → x.whole ≡ true → r.value ≡ x.value
-shown_value x r e w = ap (λ (k : Reached). k.value) e ∙ ap (λ (b : Bool). if b then x.value else 0) w
+-- it is spelled by some bytes
+pub spelled : {take : ℕ → List ℕ → Took ℕ} {L : ℕ → List ℕ → Type 0} {P : ℕ → Type 0} (y : Takes ℕ take L P) (at : ℕ) (t : List ℕ) (r : Symbol ℕ)
+    → Ok r ≡ shown (take at t) → (used : List ℕ) × L r.value used
+spelled {take} {L} y at t r e = (
+  (y.outcome at t).used,
+  subst⁻¹ (λ (v : ℕ). L v (y.outcome at t).used) (value_is (λ (v : ℕ). v) (take at t) r e) ((y.outcome at t).good (whole_is (λ (v : ℕ). v) (take at t) r e)),
+)
 
--- so it is spelled by some bytes
-pub spelled : {take : ℕ → List ℕ → Took ℕ} {L : ℕ → List ℕ → Type 0} {P : ℕ → Type 0} (y : Takes ℕ take L P) (at : ℕ) (t : List ℕ) (r : Reached)
-    → r ≡ shown (take at t) → (take at t).whole ≡ true → (used : List ℕ) × L r.value used
-spelled {take} {L} y at t r e w =
-    ((y.outcome at t).used, subst⁻¹ (λ (v : ℕ). L v (y.outcome at t).used) (shown_value (take at t) r e w) ((y.outcome at t).good w))
+-- a number stands at a place
+module _ {k : Kind} {place : ℕ} {t : List ℕ} (s : Standing k place t) (h : 0 < place) (x : Took ℕ) (e : value_at k place (drop place t) ≡ turned_into number x) where
+  -- it is read there
+  pub is_read : {r : Result (Symbol ℕ) ℕ} → r ≡ shown x → IsOk r
+  is_read {r} q = subst⁻¹ (λ (y : Result (Symbol ℕ) ℕ). IsOk y) q (is_shown x (sym (ap (λ (y : Took Value). y.whole) e) ∙ s.is_whole h))
 
--- the value at its place is that number
-module _ {k : Kind} {place : ℕ} {t : List ℕ} (s : Standing k place t) (h : 0 < place) (x : Took ℕ) (e : value_at k place (drop place t) ≡ turned_into number x)
-    (r : Reached) (q : r ≡ shown x) where
-  pub value_shown : value_by k place t ≡ number r.value
-  value_shown =
-      let w : x.whole ≡ true = sym (ap (λ (y : Took Value). y.whole) e) ∙ s.is_whole h in
-      value_there k place t h ∙ ap (λ (y : Took Value). y.value) e ∙ ap number (sym (shown_value x r q w))
+  -- the value at its place is that number
+  pub value_shown : (r : Symbol ℕ) → Ok r ≡ shown x → value_by k place t ≡ number r.value
+  value_shown r q = value_there k place t h ∙ ap (λ (y : Took Value). y.value) e ∙ ap number (sym (value_is (λ (v : ℕ). v) x r q))
 
 -- ---- where a value stops
 
@@ -73,16 +73,21 @@ list_kind n h a b c d e f =
     ∙ rw (ne_eqb n 0 a, ne_eqb n 1 b, ne_eqb n 2 c, ne_eqb n 3 d, ne_eqb n 4 e, ne_eqb n 9 f)
 
 -- by the kind of the name
-pub stop_by : (k : Kind) (name at : ℕ) (t : List ℕ) (r : Stopped) → kind_of name ≡ k → r ≡ stopped (value_at k at (drop at t)) → r ≡ stop_at name at t
+pub stop_by : (k : Kind) (name at : ℕ) (t : List ℕ) (r : Result ℕ ℕ) → kind_of name ≡ k → r ≡ stopped (value_at k at (drop at t)) → r ≡ stop_at name at t
 unfolding stop_at
 stop_by k name at t r e f = f ∙ ap (λ (x : Kind). stopped (value_at x at (drop at t))) (sym e)
 
+place_shown : (k : Took ℕ) → place_of (shown k) ≡ stopped k
+place_shown k = go k.whole
+  where
+    go : (b : Bool) → place_of (shown (took b k.place k.rest k.value)) ≡ stopped (took b k.place k.rest k.value)
+    go true = refl
+    go false = refl
+
 -- of a number the code has read more
 module _ (take : ℕ → List ℕ → Took ℕ) (k : Kind) (e : (at : ℕ) (t : List ℕ) → value_at k at t ≡ turned_into number (take at t)) where
-  pub stop_number_lem : (name at : ℕ) (t : List ℕ) (x : Reached) (r : Stopped) → kind_of name ≡ k → x ≡ shown (take at (drop at t))
-      → r ≡ record { whole = x.whole; place = x.place } → r ≡ stop_at name at t
+  pub stop_number_lem : (name at : ℕ) (t : List ℕ) (x : Result (Symbol ℕ) ℕ) (r : Result ℕ ℕ) → kind_of name ≡ k → x ≡ shown (take at (drop at t))
+      → r ≡ place_of x → r ≡ stop_at name at t
   stop_number_lem name at t x r f g h =
-      stop_by k name at t r f (h ∙ ap (λ (y : Reached). stop_of y) g ∙ sym (ap (λ (y : Took Value). stopped y) (e at (drop at t))))
-    where
-      stop_of : Reached → Stopped
-      stop_of y = record { whole = y.whole; place = y.place }
+      stop_by k name at t r f (h ∙ ap (λ (y : Result (Symbol ℕ) ℕ). place_of y) g ∙ place_shown (take at (drop at t))
+      ∙ sym (ap (λ (y : Took Value). stopped y) (e at (drop at t))))

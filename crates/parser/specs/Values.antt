@@ -4,8 +4,6 @@ use Rattle.std.specs.Prelude.{ℕ, zero, suc, ◌≤◌, ◌<◌, ◌≡◌, tru
 use Rattle.rule.specs.Raw.{RawLists, Raw}
 use Rattle.recur.specs.Grammar.{Value, absent, Kind, kind_of, rule_by}
 use Rattle.recur.specs.Reading.{value_at}
-use Rattle.parser.specs.declared.rule_content_line.Numbers.{Numbers}
-use Rattle.parser.specs.declared.rule_content_line.Counts.{Counts}
 
 -- a value of a kind that stands at a place; none stands at 0
 unfoldable pub value_by : Kind → ℕ → List ℕ → Value
@@ -28,14 +26,3 @@ rule_at places t = rule_by (λ i. value_by (kind_of i) (get_or places i 0) t)
 
 abbrev pub lists_at : List ℕ → List ℕ → RawLists
 lists_at places t = (rule_at places t).lists
-
--- what of a rule isn't in lists
-abbrev pub numbers_of : Raw → Numbers
-numbers_of w = record { freq = w.freq; interval = w.interval; count = w.count; until = w.until; wkst = w.wkst }
-
--- how many entries the lists of dates and those of times have
-abbrev pub date_counts : RawLists → Counts
-date_counts l = record { first = length l.bymonth; second = length l.bymonthday; third = length l.byyearday; fourth = length l.byweekno }
-
-abbrev pub time_counts : RawLists → Counts
-time_counts l = record { first = length l.byhour; second = length l.byminute; third = length l.bysecond; fourth = length l.bysetpos }

@@ -8,6 +8,7 @@ use Rattle.symbols.specs.Takes.{Took}
 use Rattle.recur.specs.declared.Symbol.{Symbol}
 use Rattle.recur.specs.declared.Day.{Day}
 use Rattle.recur.specs.declared.Outline.{Outline}
+use Rattle.recur.specs.declared.Slots.{Slots}
 use Rattle.recur.specs.Grammar.{weekday_of}
 use Rattle.recur.specs.Reading.{Read}
 
@@ -48,6 +49,11 @@ outline_of w = record {
 abbrev pub reading_of : Read → Result Outline ℕ
 reading_of (Ok w) = Ok (outline_of w)
 reading_of (Err n) = Err n
+
+-- the lists that slots are
+abbrev pub slots_of : Slots → RawLists
+slots_of s =
+    raw_lists s.bymonth s.bymonthday s.byyearday s.byweekno s.bydayn s.bydayw s.byhour s.byminute s.bysecond s.bysetpos
 
 -- and what it leaves in the lists: the entries in their first slots; nothing where the text is refused
 abbrev pub filled_with : RawLists → RawLists → RawLists

@@ -40,6 +40,21 @@ pub struct Outline {
     pub bysetpos: usize,
 }
 
+// The slots of the ten lists: into the first of each the reader puts as many entries as the outline says.
+#[derive(Drop)]
+pub struct Slots {
+    pub bymonth: [i16; 749],
+    pub bymonthday: [i16; 749],
+    pub byyearday: [i16; 749],
+    pub byweekno: [i16; 749],
+    pub bydayn: [i16; 749],
+    pub bydayw: [i16; 749],
+    pub byhour: [i16; 749],
+    pub byminute: [i16; 749],
+    pub bysecond: [i16; 749],
+    pub bysetpos: [i16; 749],
+}
+
 // Why no text is written: the buffer is short of the length needed, or the check refuses the rule.
 #[derive(Clone, Copy)]
 pub enum Unwritten {

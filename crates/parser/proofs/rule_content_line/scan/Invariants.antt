@@ -7,9 +7,9 @@ use Rattle.recur.specs.Places.{nowhere}
 use Rattle.parser.specs.Scans.{scan_from}
 use Rattle.parser.proofs.rule_content_line.scan.Given as goal
 
-abbrev pub invariant-loop-places : goal.invariant-loop-places
-invariant-loop-places l =
+abbrev pub invariant-loop-name : goal.invariant-loop-name
+invariant-loop-name l =
     (length l.places ≡ 14) × (l.at ≤ length l.text) × (scan_from 13 (nowhere 14) 0 l.text ≡ scan_from l.left l.places l.at l.text)
 
-abbrev pub decreases-loop-places : goal.decreases-loop-places
-decreases-loop-places l = l.left
+abbrev pub decreases-loop-name : goal.decreases-loop-name
+decreases-loop-name l = l.left
