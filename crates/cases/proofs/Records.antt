@@ -1,6 +1,6 @@
 -- Records that no accepted check yields, and some that one does.
 -- Assumes nothing.
-use Rattle.std.specs.Prelude.{Some, None}
+use Rattle.std.specs.Prelude.{Some, None, Err}
 use mathlib.Core.Path.{◌≡◌, refl}
 use mathlib.Core.List.{[], ◌∷◌}
 use lib.IntN.{pos, negsuc}
@@ -13,7 +13,7 @@ use Rattle.machine.specs.Compute.{runs, after, walk}
 use Rattle.machine.specs.Run.{at_candidate, counted, move_on}
 use Rattle.rule.specs.declared.rrule.Refusal.{Refusal}
 use Rattle.rule.specs.Raw.{raw, raw_lists}
-use Rattle.cases.specs.Play.{of, at, told, Outcome.refused, play, play_from, on_given, on_filled}
+use Rattle.cases.specs.Play.{of, at, told, play, play_from, on_given, on_filled}
 
 -- DAILY, nothing filled in: 20
 bad_record_1 :
@@ -214,13 +214,13 @@ good_record_5 = refl
 -- BYDAY's two lists of different length: 5
 half_record_1 :
     play (raw 0 1 None None 0 1704067200 (raw_lists [] [] [] [] (pos 0 ∷ []) [] [] [] [] [])) []
-    ≡ refused Refusal.EntryOut
+    ≡ Err Refusal.EntryOut
 unfolding play play_from on_given on_filled runs after walk at_candidate counted move_on leap new_year days_before_month
 half_record_1 = refl
 
 -- BYDAY's two lists of different length: 5
 half_record_2 :
     play (raw 0 1 None None 0 1704067200 (raw_lists [] [] [] [] [] (pos 0 ∷ []) [] [] [] [])) []
-    ≡ refused Refusal.EntryOut
+    ≡ Err Refusal.EntryOut
 unfolding play play_from on_given on_filled runs after walk at_candidate counted move_on leap new_year days_before_month
 half_record_2 = refl

@@ -55,8 +55,8 @@ no_candidate_at_end : (r : Rule) (k : ℕ) → Candidate r k (period r k).ends �
 no_candidate_at_end r k c = let h : (period r k).ends < (period r k).ends = c.before_end in absurd (omega arith)
 
 -- a record that is yielded comes of an accepted check
-yields_accepted : (w : Raw) (r : Rule) → Yields w r → (checked w).verdict ≡ Ok tt
-yields_accepted w r y = y.accepted
+yields_accepted : (w : Raw) (r : Rule) → Yields w r → checked w ≡ Ok r
+yields_accepted w r y = y
 
 -- from a day that doesn't pass a move lands on a later date; where it may land there is no NoTick
 lands_later : (r : Rule) (k k' : ℕ) → day_passes r (day_in r k) ≡ false → Lands r k k' → day_in r k < day_in r k'

@@ -1,12 +1,11 @@
 -- How a case is played: a rule, calls of it, and what they answer, whole.
 -- Assumes nothing.
-use Rattle.std.specs.Prelude.{ℕ, zero, suc, ◌+◌, List, [], ◌∷◌, Ok, Err}
+use Rattle.std.specs.Prelude.{ℕ, zero, suc, ◌+◌, List, [], ◌∷◌, Result, Ok, Err}
 use Rattle.machine.specs.declared.State.{State}
 use Rattle.machine.specs.declared.Stop.{Stop}
 use Rattle.machine.specs.declared.Cursor.{Cursor}
 use Rattle.machine.specs.Calls.{Answered}
 use Rattle.rule.specs.declared.rrule.Refusal.{Refusal}
-use Rattle.rule.specs.Refusals.{Verdict}
 use Rattle.rule.specs.Filling.{Checked}
 use Rattle.rule.specs.declared.rrule.Rule.{Rule}
 use Rattle.rule.specs.Raw.{Raw}
@@ -32,27 +31,26 @@ abbrev pub told : Stop → Cursor → ℕ → ℕ → List ℕ → Answered ℕ
 told stop cursor moves handed buffer = record { answer = record { stop = stop; cursor = cursor; moves = moves; handed = handed }; buffer = buffer }
 
 -- what a case comes to: the check's refusal, or the answer of each call
-pub data Outcome : Type 0 where
-  refused : Refusal → Outcome
-  answers : List (Answered ℕ) → Outcome
+abbrev pub Outcome : Type 0
+Outcome = Result (List (Answered ℕ)) Refusal
 
 unfoldable pub calls : Rule → Cursor → List Call → List (Answered ℕ)
 unfolding run_of slots
 calls r c [] = []
 calls r c (x ∷ xs) = let a : Answered ℕ = run_of r c (slots x.room 100) x.budget in a ∷ calls r a.answer.cursor xs
 
-abbrev pub judged : Verdict → (Rule → Cursor) → Rule → List Call → Outcome
-judged (Err n) from r xs = refused n
-judged (Ok tt) from r xs = answers (calls r (from r) xs)
+abbrev pub judged : Checked → (Rule → Cursor) → List Call → Outcome
+judged (Err n) from xs = Err n
+judged (Ok r) from xs = Ok (calls r (from r) xs)
 
 -- the calls in turn, from a fresh cursor; from this one
 unfoldable pub play : Raw → List Call → Outcome
 unfolding checked fresh_of calls
-play w xs = let x : Checked = checked w in judged x.verdict fresh_of x.rule xs
+play w xs = judged (checked w) fresh_of xs
 
 unfoldable pub play_from : Cursor → Raw → List Call → Outcome
 unfolding checked calls
-play_from c w xs = let x : Checked = checked w in judged x.verdict (λ r. c) x.rule xs
+play_from c w xs = judged (checked w) (λ r. c) xs
 
 -- a call on the record as it is given, before filling in, and on the filled record, whatever the check says of it
 unfoldable pub on_given : Raw → Cursor → Call → Answered ℕ

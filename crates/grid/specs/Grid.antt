@@ -27,7 +27,8 @@ Holds c = holding c ≡ c.played
 
 -- a case from this cursor
 abbrev pub called_from : Cursor → Checked → List Chart → Played
-called_from from x calls = record { verdict = x.verdict; answers = calls_of x.rule from calls }
+called_from from (Err n) calls = record { verdict = Err n; answers = [] }
+called_from from (Ok r) calls = record { verdict = Ok tt; answers = calls_of r from calls }
 
 unfoldable pub holding_from : Cursor → Case → Played
 unfolding checked calls_of rule_of leap new_year days_before_month counted at_candidate move_on walk after runs
