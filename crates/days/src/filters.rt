@@ -15,25 +15,13 @@ use years::lists::Asked;
 fn has_day(bymonthday: &[bool; 62], day: u8) -> bool
     ensures { result ≡ has_day bymonthday.now day }
 {
-    if day == 0 {
-        return false;
-    }
-    if 31 < day {
-        return false;
-    }
-    bymonthday[(30 + day) as usize]
+    (1..=31).contains(&day) && bymonthday[30 + day as usize]
 }
 
 fn has_left(bymonthday: &[bool; 62], left: u8) -> bool
     ensures { result ≡ has_left bymonthday.now left }
 {
-    if left == 0 {
-        return false;
-    }
-    if 31 < left {
-        return false;
-    }
-    bymonthday[(31 - left) as usize]
+    (1..=31).contains(&left) && bymonthday[31 - left as usize]
 }
 
 // The month and the month day of a place are read of the year's tables.
@@ -41,21 +29,16 @@ fn is_filtered_by_month(asked: bool, rule: &Rule, info: &IterInfo, place: usize)
     requires { place < 373 }
     ensures { result ≡ not (where_asked asked (month_at info.now.months rule.now.bymonth place)) }
 {
-    if !asked {
-        return false;
-    }
-    !has_month(&rule.bymonth, info.months[place])
+    asked && !has_month(&rule.bymonth, info.months[place])
 }
 
 fn is_filtered_by_month_day(asked: bool, rule: &Rule, info: &IterInfo, place: usize) -> bool
     requires { place < 373 }
     ensures { result ≡ not (where_asked asked (monthday_at info.now.monthdays info.now.fromends rule.now.bymonthday place)) }
 {
-    if !asked {
-        return false;
-    }
-    !(has_day(&rule.bymonthday, info.monthdays[place])
-        | has_left(&rule.bymonthday, info.fromends[place]))
+    asked
+        && !(has_day(&rule.bymonthday, info.monthdays[place])
+            | has_left(&rule.bymonthday, info.fromends[place]))
 }
 
 pub(crate) fn is_filtered_by_year_day(
@@ -79,10 +62,7 @@ fn is_filtered_by_week_number(asked: bool, info: &IterInfo, place: usize) -> boo
     requires { place < 373 }
     ensures { result ≡ not (where_asked asked (get_or info.now.weeks place false)) }
 {
-    if !asked {
-        return false;
-    }
-    !info.weeks[place]
+    asked && !info.weeks[place]
 }
 
 // BYDAY is one test: some entry passes, every weekday or nth. Here the weekday is known.
@@ -106,13 +86,8 @@ fn is_filtered_by_weekday(asked: Asked, rule: &Rule, info: &IterInfo, place: usi
     if !asked.day {
         return false;
     }
-    is_filtered_on(
-        asked.nth,
-        rule,
-        info,
-        weekday_at(info.year.first, place),
-        place,
-    )
+    let weekday = weekday_at(info.year.first, place);
+    is_filtered_on(asked.nth, rule, info, weekday, place)
 }
 
 // Whether the day at a place of a year's tables is filtered out, by a list or as there is no such place.

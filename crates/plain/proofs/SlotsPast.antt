@@ -1,6 +1,6 @@
 -- A number that a list has no value for is not in it: 0, and one past the list's range.
 -- Assumes nothing.
-use Prim.Native.Nat.{ℕ, zero, suc, ◌<◌}
+use Prim.Native.Nat.{ℕ, zero, suc, ◌<◌, ◌≤◌}
 use mathlib.Core.Path.{◌≡◌, refl}
 use mathlib.Core.Bool.{Bool, false}
 use mathlib.Core.List.{List}
@@ -23,3 +23,12 @@ pub none_below : (g : Range) (s : List Bool) (v : ℕ) → g.negatives < v → i
 unfolding is_in slot_of
 none_below g s zero h = absurd (omega arith)
 none_below g s (suc v) h = rw (lt-leb (suc v) g.negatives h)
+
+-- and so is one outside of the list's range
+pub none_outside : (g : Range) (s : List Bool) (v : ℕ) → g.zeroin ≡ false → (1 ≤ v → v ≤ g.positives → ⊥) → is_in g s (pos v) ≡ false
+none_outside g s zero z h = (none_at_nought g s 0 z refl).0
+none_outside g s (suc v) z h = none_above g s (suc v) (omega arith)
+
+pub none_below_outside : (g : Range) (s : List Bool) (v : ℕ) → g.zeroin ≡ false → (1 ≤ v → v ≤ g.negatives → ⊥) → is_in g s (neg_ℤ (pos v)) ≡ false
+none_below_outside g s zero z h = (none_at_nought g s 0 z refl).1
+none_below_outside g s (suc v) z h = none_below g s (suc v) (omega arith)

@@ -6,11 +6,5 @@ ghost use Rattle.plain.specs.DaySets.{has_month};
 pub fn has_month(bymonth: &[bool; 12], month: u8) -> bool
     ensures { result ≡ has_month bymonth.now month }
 {
-    if month == 0 {
-        return false;
-    }
-    if 12 < month {
-        return false;
-    }
-    bymonth[(month - 1) as usize]
+    (1..=12).contains(&month) && bymonth[month as usize - 1]
 }

@@ -37,8 +37,7 @@ pub fn is_mixed(asked: Asked) -> bool
 pub fn stretch_end(long: bool, to: usize) -> usize
     ensures { result ≡ min to (days_of long + 7) }
 {
-    let tables = days_of(long) + 7;
-    if to < tables { to } else { tables }
+    to.min(days_of(long) + 7)
 }
 
 // The day set where no list is asked: all the places of a stretch of a year's tables.

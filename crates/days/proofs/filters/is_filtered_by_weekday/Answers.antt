@@ -9,5 +9,5 @@ pub returns : goal.returns
 returns c =
     let a = c.args in
     c.is_filtered_on.ensures
-    ∙ weekday_read a.asked.day a.asked.nth a.info.now.year.first a.rule.now.byday a.info.now.nths a.place c.weekday_at.result
-    (not-false _ c.if-not-asked.false) c.weekday_at.ensures
+    ∙ weekday_read a.asked.day a.asked.nth a.info.now.year.first a.rule.now.byday a.info.now.nths a.place c.weekday_at-weekday.result
+    (not-false _ c.if-not-asked.false) c.weekday_at-weekday.ensures

@@ -33,4 +33,4 @@ returns c =
     let s = d in
     let a = s.args in
     year_day_read a.asked a.info.now.year.long a.info.now.year.nextlong a.rule.now.byyearday a.place d.year_day-day.result c.year_day_from_end-left.result
-    (not-false _ d.if-not-asked.false-raw) s.requires d.year_day-day.ensures c.year_day_from_end-left.ensures
+    d.if-not-asked.false s.requires d.year_day-day.ensures c.year_day_from_end-left.ensures

@@ -17,7 +17,7 @@ loop-weekday-init c = (omega arith, none_through _ _ _)
 pub loop-weekday-preserved-then-not-has_entry : goal.loop-weekday-preserved-then-not-has_entry
 loop-weekday-preserved-then-not-has_entry c =
     let a = c.args in
-    let n = c.has_entry.ensures (not-true _ c.if-not-has_entry.true-raw) in (
+    let n = c.has_entry.ensures c.if-not-has_entry.true in (
       omega arith,
       one_left_out (nth_at false a.year a.byday.now) a.year.first (days_of a.year.long + 7) c.loop-weekday.weekday c.loop-weekday.mask
           (omega (arith, days_high a.year.long)) (left_out_of_months a.year a.byday.now c.loop-weekday.weekday n) c.loop-weekday.invariant.1,

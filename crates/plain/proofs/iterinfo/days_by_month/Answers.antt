@@ -6,7 +6,6 @@ use mathlib.Core.Path.{sym, ap, ◌∙◌}
 use mathlib.Core.Bool.{Bool}
 use mathlib.Core.List.{List}
 use native.Mathlib.Omega.{arith}
-use borrow.Author.Tests.{not-false, not-true}
 use Rattle.calendar.specs.Calendar.{days_of}
 use Rattle.clocks.specs.Blocks.{passing}
 use Rattle.nths.proofs.Rows.{days_high}
@@ -43,7 +42,7 @@ loop-place-preserved-then-not-has_month c =
     let here = goal.at.loop-place-preserved-then-not-has_month c in
     let e = c in
     fill_no (test here.Start) e.stretch_end-stop.result (kept here.Start) e.args.days.now c.loop-place.days c.loop-place.taken c.loop-place.place
-    c.loop-place-test.true (sym c.has_month.ensures ∙ not-true _ c.if-not-has_month.true-raw) c.loop-place.invariant
+    c.loop-place-test.true (sym c.has_month.ensures ∙ c.if-not-has_month.true) c.loop-place.invariant
 
 pub overflow_cast-days : goal.overflow_cast-days
 overflow_cast-days c = search (rules, in_tables (goal.at.overflow_cast-days c).After-stretch_end-stop)
@@ -60,7 +59,7 @@ loop-place-preserved c =
     let here = goal.at.loop-place-preserved c in
     let e = c in
     fill_yes (test here.Start) e.stretch_end-stop.result (kept here.Start) e.args.days.now c.loop-place.days c.loop-place.taken c.loop-place.place
-    c.loop-place-test.true (sym c.has_month.ensures ∙ not-false _ c.if-not-has_month.false-raw) c.loop-place.invariant
+    c.loop-place-test.true (sym c.has_month.ensures ∙ c.if-not-has_month.false) c.loop-place.invariant
 
 pub returns : goal.returns
 returns c =

@@ -13,11 +13,11 @@ use Rattle.weeks.proofs.yearinfo.week_no_mask.Goals.{Else-not-has_mask}
 pub returns-then-not-has_mask : goal.returns-then-not-has_mask
 returns-then-not-has_mask c =
     let a = c.args in
-    no_mask_lem a.wkst a.weeknos.now a.year (sym c.has_mask.ensures ∙ not-true _ c.if-not-has_mask.true-raw)
+    no_mask_lem a.wkst a.weeknos.now a.year (sym c.has_mask.ensures ∙ c.if-not-has_mask.true)
 
 -- behind the first test there is a mask
 has : (c : Else-not-has_mask) → has_mask c.args.wkst c.args.year ≡ true
-has c = sym c.has_mask.ensures ∙ not-false _ c.if-not-has_mask.false-raw
+has c = sym c.has_mask.ensures ∙ c.if-not-has_mask.false
 
 pub weeks_around-weeks-requires : goal.weeks_around-weeks-requires
 weeks_around-weeks-requires c =
@@ -45,7 +45,7 @@ loop-week-preserved-then-not-week_passes c =
     let a = b.args in (
       omega arith,
       skip_week a.wkst a.weeknos.now a.year b.weeks_around-weeks.result b.weeks_around-weeks.ensures (has here.Else-not-has_mask) l.loop-week.week l.loop-week.mask
-          (sym c.week_passes.ensures ∙ not-true _ c.if-not-week_passes.true-raw) l.loop-week.invariant.1,
+          (sym c.week_passes.ensures ∙ c.if-not-week_passes.true) l.loop-week.invariant.1,
     )
 
 pub mark-requires : goal.mark-requires
@@ -62,7 +62,7 @@ loop-week-preserved c =
     let a = b.args in (
       omega arith,
       mark_week a.wkst a.weeknos.now a.year b.weeks_around-weeks.result b.weeks_around-weeks.ensures (has here.Else-not-has_mask) l.loop-week.week _ _
-          l.loop-week.mask _ (sym e.week_passes.ensures ∙ not-false _ e.if-not-week_passes.false-raw) l.loop-week.invariant.1 (omega arith)
+          l.loop-week.mask _ (sym e.week_passes.ensures ∙ e.if-not-week_passes.false) l.loop-week.invariant.1 (omega arith)
           (omega arith)
           c.mark.ensures,
     )
