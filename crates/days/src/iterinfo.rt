@@ -51,22 +51,20 @@ fn has_every(byday: &[bool; 749]) -> bool
     some_of_four(byday, 371) | some_of_four(byday, 374)
 }
 
-// The first place of a stretch that a mask marks, or the stretch's end.
+// The first place of a stretch that a mask marks, or the stretch's end. With the iterator's `position` the proof didn't close.
 fn first_marked(marks: &[bool; 373], from: usize, to: usize) -> usize
     requires { (from ≤ to) × (to ≤ 373) }
     ensures { FirstMarked marks.now from to result }
 {
-    let mut at = from;
-    while at < to {
+    for at in from..to {
         if marks[at] {
             return at;
         }
-        at += 1;
     }
-    at
+    to
 }
 
-// The same where few places are marked: eight that aren't are passed at a step.
+// The same where few places are marked: eight that aren't are passed at a step, by hand, since a bar of speed counts the instructions a day.
 fn next_marked(marks: &[bool; 373], from: usize, to: usize) -> usize
     requires { (from ≤ to) × (to ≤ 373) }
     ensures { FirstMarked marks.now from to result }

@@ -1,7 +1,6 @@
 -- `days::filters::is_filtered_by_year_day` meets its contract.
 -- Assumes nothing.
 use native.Mathlib.Omega.{arith}
-use borrow.Author.Tests.{not-false}
 use Rattle.nths.proofs.Rows.{year_day_lem}
 use Rattle.days.proofs.FilterLaws.{year_day_read}
 use Rattle.days.proofs.filters.is_filtered_by_year_day.Goals as goal

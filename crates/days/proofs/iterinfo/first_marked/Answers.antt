@@ -1,5 +1,6 @@
 -- `days::iterinfo::first_marked` meets its contract.
 -- Assumes nothing.
+use mathlib.Core.Path.{◌≡◌}
 use native.Mathlib.Omega.{arith}
 use Rattle.days.proofs.Blanks.{search_begins, search_one, search_finds, search_ends}
 use Rattle.days.proofs.iterinfo.first_marked.Goals as goal
@@ -20,4 +21,5 @@ loop-at-preserved c =
 pub returns : goal.returns
 returns c =
     let a = c.args in
-    search_ends a.marks.now a.from a.to c.loop-at.at c.loop-at.invariant (omega (arith, c.loop-at-test.false))
+    let q : c.loop-at.at ≡ a.to = omega (arith, c.loop-at-test.false, c.loop-at.invariant.high) in
+    rw q at (search_ends a.marks.now a.from a.to c.loop-at.at c.loop-at.invariant (omega (arith, c.loop-at-test.false)))

@@ -1,6 +1,6 @@
 -- `nths::monthinfo::has_entry` meets its contract.
 -- Assumes nothing.
-use Prim.Native.Nat.{◌-◌, ◌≤◌}
+use Prim.Native.Nat.{◌≤◌}
 use mathlib.Core.Path.{◌≡◌}
 use mathlib.Core.Bool.{false}
 use Rattle.nths.specs.Marks.{NoEntry}
@@ -8,6 +8,3 @@ use Rattle.nths.proofs.monthinfo.has_entry.Given as goal
 
 abbrev pub invariant-loop-row : goal.invariant-loop-row
 invariant-loop-row l = (l.from ≤ l.row) × (l.row ≤ l.to) × (l.some ≡ false → NoEntry l.byday l.weekday l.from l.row)
-
-abbrev pub decreases-loop-row : goal.decreases-loop-row
-decreases-loop-row l = l.to - l.row

@@ -4,7 +4,6 @@ use Prim.Native.Nat.{◌+◌}
 use mathlib.Core.Path.{◌≡◌}
 use mathlib.Core.Bool.{false}
 use native.Mathlib.Omega.{arith}
-use borrow.Author.Tests.{not-true}
 use Rattle.calendar.specs.Calendar.{days_of}
 use Rattle.nths.specs.Masks.{nth_at}
 use Rattle.nths.proofs.Rows.{days_high}

@@ -1,6 +1,6 @@
 -- `nths::monthinfo::month_mask` meets its contract.
 -- Assumes nothing.
-use Prim.Native.Nat.{◌+◌, ◌-◌, ◌≤◌}
+use Prim.Native.Nat.{◌+◌, ◌≤◌}
 use mathlib.Core.Bool.{false}
 use Rattle.calendar.specs.Calendar.{days_of}
 use Rattle.nths.specs.Masks.{nth_at}
@@ -10,6 +10,3 @@ use Rattle.nths.proofs.monthinfo.month_mask.Given as goal
 abbrev pub invariant-loop-weekday : goal.invariant-loop-weekday
 invariant-loop-weekday l =
     (l.weekday ≤ 7) × Through (nth_at false l.year l.byday) l.year.first (days_of l.year.long + 7) l.weekday l.mask
-
-abbrev pub decreases-loop-weekday : goal.decreases-loop-weekday
-decreases-loop-weekday l = 7 - l.weekday

@@ -3,7 +3,6 @@
 use mathlib.Core.Path.{◌≡◌, sym, ◌∙◌}
 use mathlib.Core.Bool.{true}
 use native.Mathlib.Omega.{arith}
-use borrow.Author.Tests.{not-true, not-false}
 use Rattle.weeks.specs.Weeks.{has_mask}
 use Rattle.weeks.proofs.Numbers.{longest, counted}
 use Rattle.weeks.proofs.Masks.{Asked, asked, no_mask_lem, none_done, skip_week, mark_week, all_done}
