@@ -2,4 +2,3 @@ pub mod PartLaws
 pub mod DayLaws
 pub mod TextLaws
 pub mod FitLaws
-pub mod Ranges

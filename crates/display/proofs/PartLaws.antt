@@ -1,14 +1,15 @@
 -- The parts of a text, as they are put.
 -- Assumes nothing.
 use Rattle.std.specs.Prelude.{Option, Some, None}
-use Prim.Native.Nat.{ℕ, ◌+◌, ◌<◌, ◌≤◌}
+use Prim.Native.Nat.{ℕ, ◌+◌, ◌-◌, ◌<◌, ◌≤◌}
 use mathlib.Core.Path.{◌≡◌, refl, sym, ap, subst, ◌∙◌}
 use mathlib.Core.Bool.{Bool, true, false}
 use mathlib.Core.List.{List, [], ◌∷◌, ◌++◌}
 use native.Mathlib.Omega.{arith}
 use native.Mathlib.Numerals.{add-one}
-use lib.ListN.{length, get_or, drop, drop_of_length-le}
+use lib.ListN.{length, get_or, take, drop, drop_of_length-le}
 use lib.Seq.{drop-cons}
+use Rattle.std.proofs.Math.Seq.{take-length}
 use lib.IntN.{ℤ, pos}
 use lib.Dec.{eqb}
 use borrow.Author.Tests.{eq-eqb, ne_eqb}
@@ -76,15 +77,17 @@ pub list_part_lem : (i : ℕ) (l : List ℤ) → list_bytes (59 ∷ word_at name
 list_part_lem i [] = no_part
 list_part_lem i (v ∷ vs) = sym (behind_list i v vs)
 
--- no entry; and the first entry
-pub list_gone : (name : List ℕ) (l : List ℤ) → length l ≡ 0 → [] ≡ list_bytes name l
-list_gone name [] h = refl
-list_gone name (v ∷ vs) h = absurd (omega arith)
+-- a list behind its first entry
+abbrev pub rest_of : List ℤ → List ℤ
+rest_of l = take (length l - 1) (drop 1 l)
 
-pub list_here : (name : List ℕ) (l : List ℤ) (v : ℤ) → (length l ≡ 0 → ⊥) → v ≡ get_or l 0 (pos 0)
-    → name ++ (signed_text v ++ entries_behind signed_text (drop 1 l)) ≡ list_bytes name l
-list_here name [] v h e = absurd (h refl)
-list_here name (w ∷ vs) v h e = rw e
+pub rest_is : (v : ℤ) (vs : List ℤ) → rest_of (v ∷ vs) ≡ vs
+rest_is v vs = let z : length (v ∷ vs) - 1 ≡ length vs = omega arith in ap (λ (k : ℕ). take k vs) z ∙ take-length vs
+
+pub list_here : (name : List ℕ) (l : List ℤ) (v : ℤ) → 1 ≤ length l → v ≡ get_or l 0 (pos 0)
+    → name ++ (signed_text v ++ entries_behind signed_text (rest_of l)) ≡ list_bytes name l
+list_here name [] v h e = absurd (omega arith)
+list_here name (w ∷ vs) v h e = rw (e, rest_is w vs)
 
 -- an entry more; and no more
 pub entry_next : (l : List ℤ) (i : ℕ) (v : ℤ) → i < length l → v ≡ get_or l i (pos 0)

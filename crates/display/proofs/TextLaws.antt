@@ -14,9 +14,7 @@ use Rattle.display.proofs.PartLaws.{list_part_lem}
 beside : {a b c d : List ℕ} → a ≡ b → c ≡ d → a ++ c ≡ b ++ d
 beside e f = cc
 
-lists_are : (l : RawLists)
-    → day_bytes l.bymonth l.bymonthday l.byyearday l.byweekno l.bydayn l.bydayw
-    ++ time_bytes l.byhour l.byminute l.bysecond l.bysetpos ≡ parts_behind (list_parts l)
+lists_are : (l : RawLists) → day_bytes l ++ time_bytes l ≡ parts_behind (list_parts l)
 unfolding day_bytes time_bytes
 lists_are l =
     let pairs = parts_behind (day_part (paired l.bydayn l.bydayw)) in
@@ -26,9 +24,6 @@ lists_are l =
     (list_part_lem 13 l.bysetpos))))))))
     ∙ sym (text_lists l))
 
-pub whole : (w : Raw) → (let l = w.lists in
-    head_bytes w.freq w.interval w.count w.until w.wkst
-    ++ (day_bytes l.bymonth l.bymonthday l.byyearday l.byweekno l.bydayn l.bydayw
-    ++ time_bytes l.byhour l.byminute l.bysecond l.bysetpos) ≡ text_of w)
+pub whole : (w : Raw) → head_bytes w ++ (day_bytes w.lists ++ time_bytes w.lists) ≡ text_of w
 unfolding head_bytes
 whole w = rw (lists_are w.lists) (simp append_assoc (sym (text_pieces w)))

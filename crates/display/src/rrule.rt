@@ -1,193 +1,98 @@
 // A rule's text, whole.
-ghost use Rattle.std.specs.Prelude.{◌≡◌, length};
-ghost use Rattle.rule.specs.Raw.{raw, raw_lists};
+ghost use Rattle.std.specs.Prelude.{◌≡◌, ◌≤◌, length};
+ghost use Rattle.std.proofs.lemmas.List.Edits.{sets};
+ghost use Rattle.rule.specs.Raw.{lists_of, raw_of};
+ghost use Rattle.rule.specs.Refusals.{verdict};
 ghost use Rattle.recur.specs.Writing.{text_of, written_of, text_left};
 ghost use Rattle.recur.specs.Claims.{UntilInRange};
-ghost use Rattle.puts.specs.Put.{Put, Room};
+ghost use Rattle.puts.specs.Put.{Puts, Room};
 ghost use Rattle.display.specs.Parts.{head_bytes, day_bytes, time_bytes, FittedIn};
 
 use crate::parts::{put_count, put_days, put_freq, put_interval, put_list, put_until, put_wkst};
-use recur::Written;
-use rule::rrule::Verdict;
+use puts::bytes::Text;
+use recur::Unwritten;
+use rule::rrule::{ByLists, Unvalidated};
 use validator::validate_rrule::verdict_of;
 
 // FREQ, and what isn't a list.
-fn put_head(freq: u8, interval: u16, count: Option<u32>, until: Option<u64>, wkst: u8, text: &mut [u8]) -> usize
-    requires { UntilInRange until × Room 0 (head_bytes freq interval count until wkst) }
-    ensures { Put text.old 0 (head_bytes freq interval count until wkst) text.new result }
+fn put_head(text: &mut Text, given: &Unvalidated)
+    requires { UntilInRange given.now.until × Room text.old.place (head_bytes (raw_of given.now 0)) }
+    ensures { Puts text.old (head_bytes (raw_of given.now 0)) text.new }
 {
-    let mut next = put_freq(text, 0, freq);
-    next = put_interval(text, next, interval);
-    next = put_count(text, next, count);
-    next = put_until(text, next, until);
-    put_wkst(text, next, wkst)
+    put_freq(text, given.freq);
+    put_interval(text, given.interval);
+    put_count(text, given.count);
+    put_until(text, given.until);
+    put_wkst(text, given.wkst);
 }
 
 // The lists of months, days and weeks.
-fn put_day_lists(
-    text: &mut [u8],
-    place: usize,
-    bymonth: &[i16],
-    bymonthday: &[i16],
-    byyearday: &[i16],
-    byweekno: &[i16],
-    bydayn: &[i16],
-    bydayw: &[i16],
-) -> usize
-    requires { Room place (day_bytes bymonth.now bymonthday.now byyearday.now byweekno.now bydayn.now bydayw.now) }
-    ensures { Put text.old place (day_bytes bymonth.now bymonthday.now byyearday.now
-        byweekno.now bydayn.now bydayw.now) text.new result }
+fn put_day_lists(text: &mut Text, lists: &ByLists)
+    requires { Room text.old.place (day_bytes (lists_of lists.now)) }
+    ensures { Puts text.old (day_bytes (lists_of lists.now)) text.new }
 {
-    let mut next = put_list(text, place, b";BYMONTH=", bymonth);
-    next = put_list(text, next, b";BYMONTHDAY=", bymonthday);
-    next = put_list(text, next, b";BYYEARDAY=", byyearday);
-    next = put_list(text, next, b";BYWEEKNO=", byweekno);
-    put_days(text, next, bydayn, bydayw)
+    put_list(text, b";BYMONTH=", lists.bymonth);
+    put_list(text, b";BYMONTHDAY=", lists.bymonthday);
+    put_list(text, b";BYYEARDAY=", lists.byyearday);
+    put_list(text, b";BYWEEKNO=", lists.byweekno);
+    put_days(text, lists.bydayn, lists.bydayw);
 }
 
 // The lists of hours, minutes and seconds, and the positions.
-fn put_time_lists(
-    text: &mut [u8],
-    place: usize,
-    byhour: &[i16],
-    byminute: &[i16],
-    bysecond: &[i16],
-    bysetpos: &[i16],
-) -> usize
-    requires { Room place (time_bytes byhour.now byminute.now bysecond.now bysetpos.now) }
-    ensures { Put text.old place (time_bytes byhour.now byminute.now bysecond.now
-        bysetpos.now) text.new result }
+fn put_time_lists(text: &mut Text, lists: &ByLists)
+    requires { Room text.old.place (time_bytes (lists_of lists.now)) }
+    ensures { Puts text.old (time_bytes (lists_of lists.now)) text.new }
 {
-    let mut next = put_list(text, place, b";BYHOUR=", byhour);
-    next = put_list(text, next, b";BYMINUTE=", byminute);
-    next = put_list(text, next, b";BYSECOND=", bysecond);
-    put_list(text, next, b";BYSETPOS=", bysetpos)
+    put_list(text, b";BYHOUR=", lists.byhour);
+    put_list(text, b";BYMINUTE=", lists.byminute);
+    put_list(text, b";BYSECOND=", lists.bysecond);
+    put_list(text, b";BYSETPOS=", lists.bysetpos);
 }
 
 // The whole text.
-fn put_rule(
-    freq: u8,
-    interval: u16,
-    count: Option<u32>,
-    until: Option<u64>,
-    wkst: u8,
-    bymonth: &[i16],
-    bymonthday: &[i16],
-    byyearday: &[i16],
-    byweekno: &[i16],
-    bydayn: &[i16],
-    bydayw: &[i16],
-    byhour: &[i16],
-    byminute: &[i16],
-    bysecond: &[i16],
-    bysetpos: &[i16],
-    text: &mut [u8],
-) -> usize
-    requires { UntilInRange until × Room 0 (text_of (raw freq interval count until wkst 0 (raw_lists
-        bymonth.now bymonthday.now byyearday.now byweekno.now bydayn.now
-        bydayw.now byhour.now byminute.now bysecond.now bysetpos.now))) }
-    ensures { Put text.old 0 (text_of (raw freq interval count until wkst 0 (raw_lists
-        bymonth.now bymonthday.now byyearday.now byweekno.now bydayn.now
-        bydayw.now byhour.now byminute.now bysecond.now bysetpos.now)))
-        text.new result }
+fn put_rule(text: &mut Text, given: &Unvalidated)
+    requires { UntilInRange given.now.until × Room text.old.place (text_of (raw_of given.now 0)) }
+    ensures { Puts text.old (text_of (raw_of given.now 0)) text.new }
 {
-    let mut next = put_head(freq, interval, count, until, wkst, text);
-    next = put_day_lists(
-        text, next, bymonth, bymonthday, byyearday, byweekno, bydayn, bydayw,
-    );
-    put_time_lists(text, next, byhour, byminute, bysecond, bysetpos)
+    put_head(text, given);
+    put_day_lists(text, &given.lists);
+    put_time_lists(text, &given.lists);
 }
 
-// The text of a rule that the check takes: measured by writing it into nothing, and written where there is room for it.
-fn write_fitting(
-    freq: u8,
-    interval: u16,
-    count: Option<u32>,
-    until: Option<u64>,
-    wkst: u8,
-    bymonth: &[i16],
-    bymonthday: &[i16],
-    byyearday: &[i16],
-    byweekno: &[i16],
-    bydayn: &[i16],
-    bydayw: &[i16],
-    byhour: &[i16],
-    byminute: &[i16],
-    bysecond: &[i16],
-    bysetpos: &[i16],
-    text: &mut [u8],
-) -> Written
-    requires { UntilInRange until × Room 0 (text_of (raw freq interval count until wkst 0 (raw_lists
-        bymonth.now bymonthday.now byyearday.now byweekno.now bydayn.now
-        bydayw.now byhour.now byminute.now bysecond.now bysetpos.now))) }
-    ensures { FittedIn (text_of (raw freq interval count until wkst 0 (raw_lists
-        bymonth.now bymonthday.now byyearday.now byweekno.now bydayn.now
-        bydayw.now byhour.now byminute.now bysecond.now bysetpos.now)))
-        text.old text.new result }
+// The whole text, from a buffer's first byte on, as far as it reaches; how long the text is.
+fn put_first(given: &Unvalidated, bytes: &mut [u8]) -> usize
+    requires { UntilInRange given.now.until × Room 0 (text_of (raw_of given.now 0)) }
+    ensures needed { result ≡ length (text_of (raw_of given.now 0)) }
+    ensures stands { bytes.new ≡ sets bytes.old 0 (text_of (raw_of given.now 0)) }
 {
-    let needed = put_rule(
-        freq,
-        interval,
-        count,
-        until,
-        wkst,
-        bymonth,
-        bymonthday,
-        byyearday,
-        byweekno,
-        bydayn,
-        bydayw,
-        byhour,
-        byminute,
-        bysecond,
-        bysetpos,
-        &mut text[..0],
-    );
+    let mut text = Text { bytes, place: 0 };
+    put_rule(&mut text, given);
+    text.place
+}
+
+// What the types of two numbers say of them; of a rule behind a reference it isn't told.
+fn within_types(interval: u16, times: u32)
+    ensures interval { interval ≤ 65535 }
+    ensures times { times ≤ 4294967295 }
+{}
+
+// The text of a rule that the check takes: measured by writing it into nothing, and written where there is room for it.
+fn write_fitting(given: &Unvalidated, text: &mut [u8]) -> Result<usize, Unwritten>
+    requires { verdict (raw_of given.now 0) ≡ Ok tt }
+    ensures { FittedIn (text_of (raw_of given.now 0)) text.old text.new result }
+{
+    within_types(given.interval, given.count.unwrap_or(0));
+    let needed = put_first(given, &mut text[..0]);
     if text.len() < needed {
-        return Written::Short(needed);
+        return Err(Unwritten::Short(needed));
     }
-    put_rule(
-        freq, interval, count, until, wkst, bymonth, bymonthday, byyearday, byweekno, bydayn,
-        bydayw, byhour, byminute, bysecond, bysetpos, text,
-    );
-    Written::Text(needed)
+    Ok(put_first(given, text))
 }
 
 // First the check, for start 0, then the length; with either refusal every byte is as it was.
-pub fn write(
-    freq: u8,
-    interval: u16,
-    count: Option<u32>,
-    until: Option<u64>,
-    wkst: u8,
-    bymonth: &[i16],
-    bymonthday: &[i16],
-    byyearday: &[i16],
-    byweekno: &[i16],
-    bydayn: &[i16],
-    bydayw: &[i16],
-    byhour: &[i16],
-    byminute: &[i16],
-    bysecond: &[i16],
-    bysetpos: &[i16],
-    text: &mut [u8],
-) -> Written
-    ensures { (result ≡ written_of (raw freq interval count until wkst 0 (raw_lists
-        bymonth.now bymonthday.now byyearday.now byweekno.now bydayn.now
-        bydayw.now byhour.now byminute.now bysecond.now bysetpos.now))
-        (length text.old)) × (text.new ≡ text_left (raw freq interval count until wkst 0 (raw_lists
-        bymonth.now bymonthday.now byyearday.now byweekno.now bydayn.now
-        bydayw.now byhour.now byminute.now bysecond.now bysetpos.now))
-        text.old) }
+pub fn write(given: &Unvalidated, text: &mut [u8]) -> Result<usize, Unwritten>
+    ensures { (result ≡ written_of (raw_of given.now 0) (length text.old)) × (text.new ≡ text_left (raw_of given.now 0) text.old) }
 {
-    match verdict_of(
-        freq, interval, count, until, wkst, 0, bymonth, bymonthday, byyearday, byweekno, bydayn,
-        bydayw, byhour, byminute, bysecond, bysetpos,
-    ) {
-        Verdict::Refused(refusal) => Written::Refused(refusal),
-        Verdict::Accepted => write_fitting(
-            freq, interval, count, until, wkst, bymonth, bymonthday, byyearday, byweekno, bydayn,
-            bydayw, byhour, byminute, bysecond, bysetpos, text,
-        ),
-    }
+    verdict_of(given, 0)?;
+    write_fitting(given, text)
 }

@@ -1,13 +1,14 @@
 -- Numbers in digits, by their last digits.
 -- Assumes nothing.
-use Prim.Native.Nat.{ℕ, zero, suc, ◌+◌, ◌-◌, ◌*◌, ◌/◌, ◌%◌, ◌≤◌, ◌<◌}
-use mathlib.Core.Path.{◌≡◌, sym, ap, ◌∙◌}
+use Prim.Native.Nat.{ℕ, zero, suc, ◌+◌, ◌*◌, ◌/◌, ◌%◌, ◌≤◌, ◌<◌}
+use mathlib.Core.Path.{◌≡◌, refl, sym, ap, ◌∙◌}
 use mathlib.Core.Logic.{⊎_elim}
+use mathlib.Core.Bool.{true, false}
+use lib.Signed.{lt_z}
 use mathlib.Core.List.{List, [], ◌∷◌, ◌++◌}
 use native.Mathlib.Omega.{arith}
-use borrow.Author.Tests.{lt-ltb, le-ltb}
-use lib.IntN.{ℤ, pos, negsuc}
-use Rattle.rule.specs.Entries.{Moved}
+use borrow.Author.Tests.{ltb-true, lt-ltb, le-ltb}
+use Rattle.std.specs.Prelude.{ℤ, pos, negsuc, unsigned_abs}
 use Rattle.rule.proofs.Order.{below_or}
 use Rattle.symbols.specs.Counts.{ten_to}
 use Rattle.calendar.specs.Calendar.{date_of}
@@ -53,20 +54,23 @@ four_digits n p q e f =
     let x : n / 10 / 10 ≡ n / 100 = omega arith in
     rw (e, f, x)
 
--- a value that was moved up: its digits, behind a sign if it is below 0
-pub plain : (v : ℤ) (u n : ℕ) → Moved v u → 32768 ≤ u → n ≡ u - 32768 → decimal n ≡ signed_text v
-unfolding signed_text
-plain (pos k) u n m h e = let w : u ≡ 32768 + k = m.up in let z : n ≡ k = omega arith in ap decimal z
-plain (negsuc k) u n m h e = let w : u ≡ 32768 - suc k = m.up in absurd (omega arith)
+-- a value's sign, and its digits behind it
+abbrev pub sign_text : ℤ → List ℕ
+sign_text (pos n) = []
+sign_text (negsuc n) = 45 ∷ []
 
-pub below_zero : (v : ℤ) (u n : ℕ) → Moved v u → u < 32768 → n ≡ 32768 - u → (45 ∷ []) ++ decimal n ≡ signed_text v
+pub sign_and_digits : (v : ℤ) (n : ℕ) → n ≡ unsigned_abs v → sign_text v ++ decimal n ≡ signed_text v
 unfolding signed_text
-below_zero (pos k) u n m h e = let w : u ≡ 32768 + k = m.up in absurd (omega arith)
-below_zero (negsuc k) u n m h e =
-    let w : u ≡ 32768 - suc k = m.up in
-    let f : suc k < 32769 = omega (arith, m.fits) in
-    let z : n ≡ suc k = omega arith in
-    ap (λ (x : ℕ). 45 ∷ decimal x) z
+sign_and_digits (pos k) n e = ap decimal e
+sign_and_digits (negsuc k) n e = ap (λ (x : ℕ). 45 ∷ decimal x) e
+
+pub signed_below : (v : ℤ) → lt_z v (pos 0) ≡ true → 45 ∷ [] ≡ sign_text v
+signed_below (pos n) h = let l : n < 0 = ltb-true n 0 h in absurd (omega arith)
+signed_below (negsuc n) h = refl
+
+pub unsigned_from : (v : ℤ) → lt_z v (pos 0) ≡ false → [] ≡ sign_text v
+unsigned_from (pos n) h = refl
+unsigned_from (negsuc n) h = absurd (let z : ◌≡◌ {A = ℕ} 0 1 = cc in omega arith)
 
 -- a moment: the date, T, the time of the day, Z
 pub moment_parts : (t s : ℕ) → s ≡ t + 719162 * 86400 → date_text (date_of (s / 86400)) ++ (84 ∷ (clock_text s ++ (90 ∷ []))) ≡ moment_text t

@@ -1,3 +1,2 @@
 pub mod PutLaws
 pub mod DigitLaws
-pub mod WordLaws

@@ -1,40 +1,42 @@
-// Bytes and words.
+// A text as it is written, its bytes and words.
 ghost use Rattle.std.specs.Prelude.{[], ◌∷◌};
-ghost use Rattle.puts.specs.Put.{Put, Room};
+ghost use Rattle.puts.specs.Put.{Puts, Room};
 
-// One byte.
-pub fn put_byte(text: &mut [u8], place: usize, byte: u8) -> usize
-    requires { Room place (byte ∷ []) }
-    ensures { Put text.old place (byte ∷ []) text.new result }
-{
-    if text.len() <= place {
-        return place + 1;
-    }
-    text[place] = byte;
-    place + 1
+// A text as it is written: its bytes, and the place of the next one.
+#[derive(Drop)]
+pub struct Text<'a> {
+    pub bytes: &'a mut [u8],
+    pub place: usize,
 }
 
-// Two bytes.
-pub fn put_pair(text: &mut [u8], place: usize, first: u8, second: u8) -> usize
-    requires { Room place (first ∷ (second ∷ [])) }
-    ensures { Put text.old place (first ∷ (second ∷ [])) text.new result }
-{
-    let next = put_byte(text, place, first);
-    put_byte(text, next, second)
-}
-
-// A word, as far as the text reaches.
-pub fn put_word(text: &mut [u8], place: usize, word: &[u8]) -> usize
-    requires { Room place word.now }
-    ensures { Put text.old place word.now text.new result }
-{
-    let mut i = 0;
-    while i < word.len() {
-        if text.len() <= place + i {
-            return place + word.len();
+impl Text<'_> {
+    // One byte.
+    pub fn put_byte(&mut self, byte: u8)
+        requires { Room self.old.place (byte ∷ []) }
+        ensures { Puts self.old (byte ∷ []) self.new }
+    {
+        if self.place < self.bytes.len() {
+            self.bytes[self.place] = byte;
         }
-        text[place + i] = word[i];
-        i += 1;
+        self.place += 1;
     }
-    place + word.len()
+
+    // Two bytes.
+    pub fn put_pair(&mut self, first: u8, second: u8)
+        requires { Room self.old.place (first ∷ (second ∷ [])) }
+        ensures { Puts self.old (first ∷ (second ∷ [])) self.new }
+    {
+        self.put_byte(first);
+        self.put_byte(second);
+    }
+
+    // A word, as far as the text reaches.
+    pub fn put_word(&mut self, word: &[u8])
+        requires { Room self.old.place word.now }
+        ensures { Puts self.old word.now self.new }
+    {
+        for byte in word {
+            self.put_byte(*byte);
+        }
+    }
 }

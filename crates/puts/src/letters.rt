@@ -1,40 +1,42 @@
 // The words of a text.
 ghost use Rattle.symbols.specs.Languages.{word_at};
 ghost use Rattle.recur.specs.Grammar.{frequencies, weekday_names};
-ghost use Rattle.puts.specs.Put.{Put, Room};
+ghost use Rattle.puts.specs.Put.{Puts, Room};
 
-use crate::bytes::{put_pair, put_word};
+use crate::bytes::Text;
 
-// A weekday's two letters, and none where there is no such weekday.
-pub fn put_weekday(text: &mut [u8], place: usize, weekday: u32) -> usize
-    requires { Room place (word_at weekday_names weekday) }
-    ensures { Put text.old place (word_at weekday_names weekday) text.new result }
-{
-    match weekday {
-        0 => put_pair(text, place, b'M', b'O'),
-        1 => put_pair(text, place, b'T', b'U'),
-        2 => put_pair(text, place, b'W', b'E'),
-        3 => put_pair(text, place, b'T', b'H'),
-        4 => put_pair(text, place, b'F', b'R'),
-        5 => put_pair(text, place, b'S', b'A'),
-        6 => put_pair(text, place, b'S', b'U'),
-        _ => place,
+impl Text<'_> {
+    // A weekday's two letters, and none where there is no such weekday.
+    pub fn put_weekday(&mut self, weekday: u32)
+        requires { Room self.old.place (word_at weekday_names weekday) }
+        ensures { Puts self.old (word_at weekday_names weekday) self.new }
+    {
+        match weekday {
+            0 => self.put_pair(b'M', b'O'),
+            1 => self.put_pair(b'T', b'U'),
+            2 => self.put_pair(b'W', b'E'),
+            3 => self.put_pair(b'T', b'H'),
+            4 => self.put_pair(b'F', b'R'),
+            5 => self.put_pair(b'S', b'A'),
+            6 => self.put_pair(b'S', b'U'),
+            _ => {}
+        }
     }
-}
 
-// A frequency's name, and none where there is no such frequency.
-pub fn put_frequency(text: &mut [u8], place: usize, freq: u8) -> usize
-    requires { Room place (word_at frequencies freq) }
-    ensures { Put text.old place (word_at frequencies freq) text.new result }
-{
-    match freq {
-        0 => put_word(text, place, b"YEARLY"),
-        1 => put_word(text, place, b"MONTHLY"),
-        2 => put_word(text, place, b"WEEKLY"),
-        3 => put_word(text, place, b"DAILY"),
-        4 => put_word(text, place, b"HOURLY"),
-        5 => put_word(text, place, b"MINUTELY"),
-        6 => put_word(text, place, b"SECONDLY"),
-        _ => place,
+    // A frequency's name, and none where there is no such frequency.
+    pub fn put_frequency(&mut self, freq: u8)
+        requires { Room self.old.place (word_at frequencies freq) }
+        ensures { Puts self.old (word_at frequencies freq) self.new }
+    {
+        match freq {
+            0 => self.put_word(b"YEARLY"),
+            1 => self.put_word(b"MONTHLY"),
+            2 => self.put_word(b"WEEKLY"),
+            3 => self.put_word(b"DAILY"),
+            4 => self.put_word(b"HOURLY"),
+            5 => self.put_word(b"MINUTELY"),
+            6 => self.put_word(b"SECONDLY"),
+            _ => {}
+        }
     }
 }

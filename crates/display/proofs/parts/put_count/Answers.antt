@@ -4,26 +4,14 @@ use Rattle.puts.proofs.PutLaws.{put_none, put_of, first_room, next_room, put_bot
 use Rattle.display.proofs.PartLaws.{count_here, count_gone}
 use Rattle.display.proofs.parts.put_count.Goals as goal
 
-pub put_word-next-requires : goal.put_word-next-requires
-put_word-next-requires c =
-    let value = c in
-    let start = value in
-    first_room _ (count_here start.args.count _ value.in-Some.is) start.requires
+pub put_word-requires : goal.put_word-requires
+put_word-requires c = first_room _ (count_here _ _ c.in-Some.is) c.requires
 
 pub put_number-requires : goal.put_number-requires
-put_number-requires c =
-    let name = c in
-    let value = name in
-    let start = value in
-    next_room (count_here start.args.count _ value.in-Some.is) start.requires name.put_word-next.ensures
-
-pub returns-in-Absent : goal.returns-in-Absent
-returns-in-Absent c = put_of (count_gone _ c.in-Absent.is) (put_none _ _)
+put_number-requires c = next_room (count_here _ _ c.in-Some.is) c.requires c.put_word.ensures
 
 pub returns-in-Some : goal.returns-in-Some
-returns-in-Some c =
-    let put = c in
-    let name = put in
-    let value = name in
-    let start = value in
-    put_both (count_here start.args.count _ value.in-Some.is) name.put_word-next.ensures put.put_number.ensures
+returns-in-Some c = put_both (count_here _ _ c.in-Some.is) c.put_word.ensures c.put_number.ensures
+
+pub returns-in_default : goal.returns-in_default
+returns-in_default c = put_of (count_gone _ c.in_default.is) (put_none _)

@@ -12,8 +12,8 @@ use Rattle.recur.specs.Grammar.{weekday_names}
 use Rattle.recur.specs.Writing.{nth_text, day_text, weekday_number}
 use Rattle.puts.proofs.PutLaws.{put_of, room_of, first_room, next_room, put_both}
 use Rattle.display.proofs.DayLaws.{day_parts}
-use Rattle.display.proofs.parts.put_day.Goals as goal
 use Rattle.display.proofs.parts.put_day.Goals.{Start}
+use Rattle.display.proofs.parts.put_day.Goals as goal
 
 by_nth : (c : Start)
     → nth_text (to_z w16 (of_z w16 c.args.nth)) ++ word_at weekday_names (weekday_number c.args.weekday)
@@ -26,18 +26,15 @@ by_weekday : (c : Start) (w : ℕ) → w ≡ weekday_number (to_z w16 (of_z w16 
     → word_at weekday_names (weekday_number c.args.weekday) ≡ word_at weekday_names w
 by_weekday c w e = ap (word_at weekday_names) (ap weekday_number (sym (to_z-of_z w16 _ c.ranges.weekday)) ∙ sym e)
 
-pub put_nth-next-requires : goal.put_nth-next-requires
-put_nth-next-requires c = first_room _ (by_nth (goal.at.put_nth-next-requires c).Start) c.requires
+pub put_nth-requires : goal.put_nth-requires
+put_nth-requires c = first_room _ (by_nth (goal.at.put_nth-requires c).Start) c.requires
 
 pub put_weekday-requires : goal.put_weekday-requires
 put_weekday-requires c =
-    let nth = c in
-    let start = nth in
-    room_of (by_weekday (goal.at.put_weekday-requires c).Start _ c.weekday_number.ensures) (next_room (by_nth (goal.at.put_weekday-requires c).Start) start.requires nth.put_nth-next.ensures)
+    let start = (goal.at.put_weekday-requires c).Start in
+    room_of (by_weekday start _ c.weekday_number.ensures) (next_room (by_nth start) c.requires c.put_nth.ensures)
 
 pub returns : goal.returns
 returns c =
-    let day = c in
-    let nth = day in
-    let start = nth in
-    put_both (by_nth (goal.at.returns c).Start) nth.put_nth-next.ensures (put_of (sym (by_weekday (goal.at.returns c).Start _ day.weekday_number.ensures)) day.put_weekday.ensures)
+    let start = (goal.at.returns c).Start in
+    put_both (by_nth start) c.put_nth.ensures (put_of (sym (by_weekday start _ c.weekday_number.ensures)) c.put_weekday.ensures)

@@ -5,25 +5,13 @@ use Rattle.display.proofs.PartLaws.{interval_here, interval_gone}
 use Rattle.display.proofs.parts.put_interval.Goals as goal
 
 pub returns-then-interval-eq1 : goal.returns-then-interval-eq1
-returns-then-interval-eq1 c = put_of (interval_gone _ c.if-interval-eq1.true) (put_none _ _)
+returns-then-interval-eq1 c = put_of (interval_gone _ c.if-interval-eq1.true) (put_none _)
 
-pub put_word-next-requires : goal.put_word-next-requires
-put_word-next-requires c =
-    let test = c in
-    let start = test in
-    first_room _ (interval_here start.args.interval test.if-interval-eq1.false) start.requires
+pub put_word-requires : goal.put_word-requires
+put_word-requires c = first_room _ (interval_here c.args.interval c.if-interval-eq1.false) c.requires
 
 pub put_number-requires : goal.put_number-requires
-put_number-requires c =
-    let name = c in
-    let test = name in
-    let start = test in
-    next_room (interval_here start.args.interval test.if-interval-eq1.false) start.requires name.put_word-next.ensures
+put_number-requires c = next_room (interval_here c.args.interval c.if-interval-eq1.false) c.requires c.put_word.ensures
 
 pub returns : goal.returns
-returns c =
-    let value = c in
-    let name = value in
-    let test = name in
-    let start = test in
-    put_both (interval_here start.args.interval test.if-interval-eq1.false) name.put_word-next.ensures value.put_number.ensures
+returns c = put_both (interval_here c.args.interval c.if-interval-eq1.false) c.put_word.ensures c.put_number.ensures

@@ -1,13 +1,8 @@
--- `display::parts::put_more_days` meets its contract: what is left to put completes the entries.
+-- What is left to put completes the entries.
 -- Assumes nothing.
-use Prim.Native.Nat.{◌-◌}
-use lib.ListN.{length}
 use Rattle.puts.proofs.PutLaws.{Left}
-use Rattle.display.proofs.DayLaws.{days_from}
+use Rattle.display.proofs.DayLaws.{days_behind}
 use Rattle.display.proofs.parts.put_more_days.Given as goal
 
-abbrev pub invariant-loop-i : goal.invariant-loop-i
-invariant-loop-i l = Left l.text l.next (days_from l.ns l.ws l.i) l.initial.text l.place (days_from l.ns l.ws 1)
-
-abbrev pub decreases-loop-i : goal.decreases-loop-i
-decreases-loop-i l = length l.ns - l.i
+abbrev pub invariant-loop-nth : goal.invariant-loop-nth
+invariant-loop-nth l = Left l.text (days_behind l.nth-iterator.a.rest.now l.nth-iterator.b.rest.now) l.initial.text (days_behind l.ns l.ws)

@@ -4,28 +4,17 @@ use Rattle.puts.proofs.PutLaws.{put_none, put_of, first_room, next_room, put_bot
 use Rattle.display.proofs.PartLaws.{until_here, until_gone, until_low}
 use Rattle.display.proofs.parts.put_until.Goals as goal
 
-pub put_word-next-requires : goal.put_word-next-requires
-put_word-next-requires c =
-    let value = c in
-    let start = value in
-    first_room _ (until_here start.args.until _ value.in-At.is) start.requires.1
+pub put_word-requires : goal.put_word-requires
+put_word-requires c = first_room _ (until_here _ _ c.in-Some.is) c.requires.1
 
 pub put_moment-requires : goal.put_moment-requires
-put_moment-requires c =
-    let name = c in
-    let value = name in
-    let start = value in (
-      until_low start.args.until _ value.in-At.is start.requires.0,
-      next_room (until_here start.args.until _ value.in-At.is) start.requires.1 name.put_word-next.ensures,
-    )
+put_moment-requires c = (
+  until_low _ _ c.in-Some.is c.requires.0,
+  next_room (until_here _ _ c.in-Some.is) c.requires.1 c.put_word.ensures,
+)
 
-pub returns-in-Absent : goal.returns-in-Absent
-returns-in-Absent c = put_of (until_gone _ c.in-Absent.is) (put_none _ _)
+pub returns-in-Some : goal.returns-in-Some
+returns-in-Some c = put_both (until_here _ _ c.in-Some.is) c.put_word.ensures c.put_moment.ensures
 
-pub returns-in-At : goal.returns-in-At
-returns-in-At c =
-    let put = c in
-    let name = put in
-    let value = name in
-    let start = value in
-    put_both (until_here start.args.until _ value.in-At.is) name.put_word-next.ensures put.put_moment.ensures
+pub returns-in_default : goal.returns-in_default
+returns-in_default c = put_of (until_gone _ c.in_default.is) (put_none _)

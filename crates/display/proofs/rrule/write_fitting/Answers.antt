@@ -1,17 +1,24 @@
 -- `display::rrule::write_fitting` meets its contract.
 -- Assumes nothing.
-use native.Mathlib.Omega.{arith}
-use Rattle.display.proofs.FitLaws.{short, long}
+use mathlib.Core.Path.{refl}
+use Rattle.rule.specs.Raw.{raw_of}
+use Rattle.display.proofs.FitLaws.{room, short, long}
 use Rattle.display.proofs.rrule.write_fitting.Goals as goal
 
+pub put_first-needed-requires : goal.put_first-needed-requires
+put_first-needed-requires c =
+    let fits = c.within_types.ensures in
+    room (raw_of c.args.given.now 0) _ c.requires refl fits.interval c.unwrap_or.ensures fits.times
+
+pub put_first-requires : goal.put_first-requires
+put_first-requires c =
+    let fits = c.within_types.ensures in
+    room (raw_of c.args.given.now 0) _ c.requires refl fits.interval c.unwrap_or.ensures fits.times
+
 pub returns-then-text-needed : goal.returns-then-text-needed
-returns-then-text-needed c =
-    let measured = c in
-    short _ _ _ _ measured.put_rule-needed.ensures (omega arith)
+returns-then-text-needed c = short _ _ _ _ c.put_first-needed.ensures.stands c.put_first-needed.ensures.needed c.if-text-needed.true
 
 pub returns : goal.returns
 returns c =
-    let put = c in
-    let test = put in
-    let measured = test in
-    long _ _ _ _ measured.put_rule-needed.ensures _ _ (omega arith) put.put_rule.ensures
+    long _ _ _ _ c.put_first-needed.ensures.stands c.put_first-needed.ensures.needed _ _ c.if-text-needed.false c.put_first.ensures.stands
+    c.put_first.ensures.needed
