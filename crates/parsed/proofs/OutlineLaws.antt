@@ -1,24 +1,25 @@
 -- A text that is read as a rule: the lists have its entries in their first slots, and cut to their counts they are the rule's.
 -- Assumes nothing.
+use Rattle.std.specs.Prelude.{Ok, Err}
 use Prim.Native.Nat.{ℕ, ◌+◌, ◌≤◌}
 use native.Mathlib.Omega.{arith}
 use mathlib.Core.Path.{◌≡◌, refl, sym, ap, ◌∙◌, subst⁻¹}
 use mathlib.Core.List.{List}
-use lib.ListN.{length, take, drop, replicate, length-replicate}
+use lib.ListN.{length, take, drop}
 use lib.Seq.{take-append_seam, sets, length-sets, sets-eq}
-use lib.IntN.{ℤ, pos}
+use lib.IntN.{ℤ}
 use Rattle.rule.specs.Raw.{RawLists, Raw, raw, raw_lists}
-use Rattle.rule.specs.Filling.{blank, checked}
+use Rattle.rule.specs.declared.rrule.Refusal.{Refusal}
+use Rattle.rule.specs.declared.rrule.Rule.{Rule}
+use Rattle.rule.specs.Filling.{checked}
 use Rattle.recur.specs.declared.Outline.{Outline}
-use Rattle.recur.specs.declared.Reading.{Reading}
-use Rattle.recur.specs.declared.Told.{Told}
-use Rattle.recur.specs.declared.Parsed.{Parsed}
-use Rattle.recur.specs.Reading.{Read, rule, refused, read_of}
+use Rattle.recur.specs.declared.Unparsed.{Unparsed}
+use Rattle.recur.specs.Reading.{Read, read_of}
 use Rattle.recur.specs.Shown.{outline_of, reading_of, filled_with, lists_left}
 use Rattle.recur.specs.Parsed.{with_start, parsed_as, parsed_by, parsed_of}
 use Rattle.recur.specs.Claims.{InRange}
 use Rattle.recur.proofs.Ranges.{read_in_range}
-use Rattle.parsed.specs.Outlined.{LongEnough, rule_with}
+use Rattle.parsed.specs.Outlined.{Full, LongEnough, rule_with}
 
 -- ---- one list
 
@@ -32,54 +33,6 @@ module _ (l v : List ℤ) (h : length v ≤ 749) (f : length l ≡ 749) where
   fits n e = rw length-sets (omega arith)
 
 -- ---- all of them
-
--- lists of 749 slots
-pub record Full (l : RawLists) : Type 0 where
-  pub bymonth : length l.bymonth ≡ 749
-  pub bymonthday : length l.bymonthday ≡ 749
-  pub byyearday : length l.byyearday ≡ 749
-  pub byweekno : length l.byweekno ≡ 749
-  pub bydayn : length l.bydayn ≡ 749
-  pub bydayw : length l.bydayw ≡ 749
-  pub byhour : length l.byhour ≡ 749
-  pub byminute : length l.byminute ≡ 749
-  pub bysecond : length l.bysecond ≡ 749
-  pub bysetpos : length l.bysetpos ≡ 749
-
--- as they are at first
-pub empty : Full (raw_lists (replicate 749 (pos 0)) (replicate 749 (pos 0)) (replicate 749 (pos 0)) (replicate 749 (pos 0)) (replicate 749 (pos 0))
-    (replicate 749 (pos 0)) (replicate 749 (pos 0)) (replicate 749 (pos 0)) (replicate 749 (pos 0)) (replicate 749 (pos 0)))
-empty = record {
-  bymonth = length-replicate 749 (pos 0);
-  bymonthday = length-replicate 749 (pos 0);
-  byyearday = length-replicate 749 (pos 0);
-  byweekno = length-replicate 749 (pos 0);
-  bydayn = length-replicate 749 (pos 0);
-  bydayw = length-replicate 749 (pos 0);
-  byhour = length-replicate 749 (pos 0);
-  byminute = length-replicate 749 (pos 0);
-  bysecond = length-replicate 749 (pos 0);
-  bysetpos = length-replicate 749 (pos 0);
-}
-
--- the lists stay as long as they were
-full_by : (k : Read) (l : RawLists) → Full l → Full (lists_left k l)
-full_by (rule w) l f = record {
-  bymonth = length-sets l.bymonth 0 w.lists.bymonth ∙ f.bymonth;
-  bymonthday = length-sets l.bymonthday 0 w.lists.bymonthday ∙ f.bymonthday;
-  byyearday = length-sets l.byyearday 0 w.lists.byyearday ∙ f.byyearday;
-  byweekno = length-sets l.byweekno 0 w.lists.byweekno ∙ f.byweekno;
-  bydayn = length-sets l.bydayn 0 w.lists.bydayn ∙ f.bydayn;
-  bydayw = length-sets l.bydayw 0 w.lists.bydayw ∙ f.bydayw;
-  byhour = length-sets l.byhour 0 w.lists.byhour ∙ f.byhour;
-  byminute = length-sets l.byminute 0 w.lists.byminute ∙ f.byminute;
-  bysecond = length-sets l.bysecond 0 w.lists.bysecond ∙ f.bysecond;
-  bysetpos = length-sets l.bysetpos 0 w.lists.bysetpos ∙ f.bysetpos;
-}
-full_by (refused n) l f = f
-
-pub left_full : (t : List ℕ) (l m : RawLists) → Full l → m ≡ lists_left (read_of t) l → Full m
-left_full t l m f e = subst⁻¹ Full e (full_by (read_of t) l f)
 
 -- lists by their fields
 same_lists : {a b c d e f g h i j k l m n o p q r s t : List ℤ} → a ≡ k → b ≡ l → c ≡ m → d ≡ n → e ≡ o → f ≡ p → g ≡ q → h ≡ r → i ≡ s → j ≡ t
@@ -122,21 +75,20 @@ module _ (w : Raw) (r : InRange w) (l : RawLists) (f : Full l) where
 
 -- ---- what is read
 
-rule_read : (k : Read) (o : Outline) → Reading.Rule o ≡ reading_of k → (w : Raw) × (k ≡ rule w) × (o ≡ outline_of w)
-rule_read (rule w) o e = (w, refl, cc)
-rule_read (refused n) o e = absurd (let z : ◌≡◌ {A = ℕ} 0 1 = cc in omega arith)
+rule_read : (k : Read) (o : Outline) → Ok o ≡ reading_of k → (w : Raw) × (k ≡ Ok w) × (o ≡ outline_of w)
+rule_read (Ok w) o e = (w, refl, cc)
+rule_read (Err n) o e = absurd (let z : ◌≡◌ {A = ℕ} 0 1 = cc in omega arith)
 
-refused_read : (k : Read) (n : ℕ) → Reading.Refused n ≡ reading_of k → k ≡ refused n
-refused_read (rule w) n e = absurd (let z : ◌≡◌ {A = ℕ} 0 1 = cc in omega arith)
-refused_read (refused m) n e = cc
+refused_read : (k : Read) (n : ℕ) → Err n ≡ reading_of k → k ≡ Err n
+refused_read (Ok w) n e = absurd (let z : ◌≡◌ {A = ℕ} 0 1 = cc in omega arith)
+refused_read (Err m) n e = cc
 
-pub parsed_refused : (t : List ℕ) (n start : ℕ) → Reading.Refused n ≡ reading_of (read_of t)
-    → ◌≡◌ {A = Parsed} (record { told = Told.Unread n; rule = blank }) (parsed_of t start)
+pub parsed_unread : (t : List ℕ) (n start : ℕ) → Err n ≡ reading_of (read_of t) → Err (Unparsed.Unread n) ≡ parsed_of t start
 unfolding parsed_of
-parsed_refused t n start e = sym (ap (λ (k : Read). parsed_by k start) (refused_read (read_of t) n e))
+parsed_unread t n start e = sym (ap (λ (k : Read). parsed_by k start) (refused_read (read_of t) n e))
 
-module _ (t : List ℕ) (l m : RawLists) (o : Outline) (f : Full l) (e : Reading.Rule o ≡ reading_of (read_of t)) (g : m ≡ lists_left (read_of t) l) where
-  found : (w : Raw) × (read_of t ≡ rule w) × (o ≡ outline_of w)
+module _ (t : List ℕ) (l m : RawLists) (o : Outline) (f : Full l) (e : Ok o ≡ reading_of (read_of t)) (g : m ≡ lists_left (read_of t) l) where
+  found : (w : Raw) × (read_of t ≡ Ok w) × (o ≡ outline_of w)
   found = rule_read (read_of t) o e
 
   range : InRange found.0
@@ -150,11 +102,17 @@ module _ (t : List ℕ) (l m : RawLists) (o : Outline) (f : Full l) (e : Reading
       subst⁻¹ (λ (x : Outline). LongEnough x m) found.2
       (subst⁻¹ (λ (x : RawLists). LongEnough (outline_of found.0) x) filled (long_of found.0 range l f))
 
-  pub parsed_rule : (given start : ℕ) → given ≡ start → parsed_as (checked (rule_with o given m)) ≡ parsed_of t start
+  -- what the check says of it
+  pub parsed_rule : (start : ℕ) → parsed_as (checked (rule_with o start m)) ≡ parsed_of t start
   unfolding parsed_of
-  parsed_rule given start h =
-      ap (λ (x : Outline). parsed_as (checked (rule_with x given m))) found.2
-      ∙ ap (λ (x : RawLists). parsed_as (checked (rule_with (outline_of found.0) given x))) filled
-      ∙ ap (λ (w : Raw). parsed_as (checked w)) (cuts_of found.0 range l f given)
-      ∙ ap (λ (n : ℕ). parsed_as (checked (with_start n found.0))) h
+  parsed_rule start =
+      ap (λ (x : Outline). parsed_as (checked (rule_with x start m))) found.2
+      ∙ ap (λ (x : RawLists). parsed_as (checked (rule_with (outline_of found.0) start x))) filled
+      ∙ ap (λ (w : Raw). parsed_as (checked w)) (cuts_of found.0 range l f start)
       ∙ sym (ap (λ (k : Read). parsed_by k start) found.1)
+
+  pub parsed_refused : (start : ℕ) (n : Refusal) → Err n ≡ checked (rule_with o start m) → Err (Unparsed.Refused n) ≡ parsed_of t start
+  parsed_refused start n h = ap parsed_as h ∙ parsed_rule start
+
+  pub parsed_accepted : (start : ℕ) (r : Rule) → Ok r ≡ checked (rule_with o start m) → Ok r ≡ parsed_of t start
+  parsed_accepted start r h = ap parsed_as h ∙ parsed_rule start

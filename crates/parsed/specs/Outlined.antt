@@ -1,8 +1,21 @@
 -- The rule of an outline: of each list as many entries as the outline says.
 -- Assumes nothing.
-use Rattle.std.specs.Prelude.{ℕ, ◌≤◌, length, take}
+use Rattle.std.specs.Prelude.{ℕ, ◌≤◌, ◌≡◌, length, take}
 use Rattle.rule.specs.Raw.{RawLists, Raw, raw, raw_lists}
 use Rattle.recur.specs.declared.Outline.{Outline}
+
+-- lists of 749 slots
+pub record Full (l : RawLists) : Type 0 where
+  pub bymonth : length l.bymonth ≡ 749
+  pub bymonthday : length l.bymonthday ≡ 749
+  pub byyearday : length l.byyearday ≡ 749
+  pub byweekno : length l.byweekno ≡ 749
+  pub bydayn : length l.bydayn ≡ 749
+  pub bydayw : length l.bydayw ≡ 749
+  pub byhour : length l.byhour ≡ 749
+  pub byminute : length l.byminute ≡ 749
+  pub bysecond : length l.bysecond ≡ 749
+  pub bysetpos : length l.bysetpos ≡ 749
 
 -- the lists are long enough
 pub record LongEnough (o : Outline) (l : RawLists) : Type 0 where

@@ -1,6 +1,0 @@
--- `parsed::told_of` meets its contract.
--- Assumes nothing.
-use Rattle.parsed.proofs.told_of.Goals as goal
-
-pub returns-in-Refused : goal.returns-in-Refused
-returns-in-Refused c = rw c.in-Refused.is
