@@ -11,6 +11,7 @@ pub enum Cause {
     Range = 5,
 }
 
+// No Option<Cause>: the design names this form (docs/DECISIONS.md, "The run"), and Running and Ended are the words of the theorems in specs/.
 #[derive(Clone, Copy, PartialEq, Eq)]
 pub enum State {
     Running,
@@ -24,7 +25,7 @@ pub enum Fault {
     Cursor = 21,
 }
 
-// Why a call has stopped.
+// Why a call has stopped. Refused is a kind and no Err: what a refused run leaves is promised with its answer, `refused_answer`.
 #[derive(Clone, Copy)]
 pub enum Stop {
     Ended,
