@@ -23,6 +23,7 @@ pub fn is_reached(bounds: Bounds, number: u64) -> bool
 }
 
 // Whether a call is ready to walk, with so much room in the buffer.
+#[tactic(auto, unfolding(crate::specs::Passing::is_ready))]
 pub fn is_ready(bounds: Bounds, held: Held, room: usize) -> bool
     ensures { result ≡ is_ready bounds held room }
 {

@@ -7,7 +7,7 @@ use machine::Cursor;
 use rule::rrule::Frequency;
 use times::iterinfo::{Counts, quotient, time_at};
 
-// Why a walk has stopped; Through where no candidate remains.
+// Why a walk has stopped; Through where no candidate remains. A kind and no None: `walked_by` and `settled` say of each of the four what follows.
 #[derive(Clone, Copy)]
 pub enum Why {
     Full,

@@ -1,11 +1,9 @@
 -- `passing::rrule_iter::pass_days` meets its contract. The loop's invariant: the days that are left lead where all of them lead.
 -- Assumes nothing.
 use Prim.Native.Nat.{ℕ, ◌+◌}
-use mathlib.Core.Path.{◌≡◌, refl, sym, ap, ◌∙◌}
+use mathlib.Core.Path.{◌≡◌, sym, ap, ◌∙◌}
 use mathlib.Core.Bool.{true}
-use native.Mathlib.Nat.{div-mul-le_self}
 use native.Mathlib.Omega.{arith}
-use borrow.Author.Tests.{not-true, not-false}
 use Rattle.walks.specs.declared.rrule_iter.Held.{Held}
 use Rattle.walks.specs.Walks.{is_framed}
 use Rattle.passing.specs.Passing.{is_passed, last_of, held_at, passed_days}
@@ -18,7 +16,7 @@ use Rattle.passing.proofs.rrule_iter.pass_days.Goals.{After-is_passed, At-loop-d
 
 -- behind the guard no sum wraps
 framing : (c : Else-not-is_framed) → is_framed c.args.frame ≡ true
-framing c = sym c.is_framed.ensures ∙ not-false _ c.if-not-is_framed.false-raw
+framing c = sym c.is_framed.ensures ∙ c.if-not-is_framed.false
 
 small : (c : Else-not-is_framed) → Small c.args.frame
 small c = framed_told _ (framing c)
@@ -51,12 +49,7 @@ returns-then-full c = full_passes_none c.args.full _ _ _ _ c.if-full.true
 
 pub returns-then-not-is_framed : goal.returns-then-not-is_framed
 returns-then-not-is_framed c =
-    unframed_passes_none _ _ _ _ _ c.if-full.false (sym c.is_framed.ensures ∙ not-true _ c.if-not-is_framed.true-raw)
-
-pub overflow_mul-first_day : goal.overflow_mul-first_day
-overflow_mul-first_day c =
-    let a = c.args in
-    rw c.quotient-first_day.ensures (omega (arith, div-mul-le_self a.held.cursor.place a.frame.times))
+    unframed_passes_none _ _ _ _ _ c.if-full.false (sym c.is_framed.ensures ∙ c.if-not-is_framed.true)
 
 pub returns-then-first_day-frame : goal.returns-then-first_day-frame
 returns-then-first_day-frame c =
@@ -64,9 +57,6 @@ returns-then-first_day-frame c =
     let a = q.args in
     sym (none_passed a.full a.frame a.bounds a.held a.days.now _ q.quotient-first_day.ensures
     q.if-full.false (framing (goal.at.returns-then-first_day-frame c).Else-not-is_framed) c.if-first_day-frame.true)
-
-pub loop-day-init : goal.loop-day-init
-loop-day-init c = (refl, sym c.if-first_day-frame.false, refl)
 
 pub overflow_cast-frame : goal.overflow_cast-frame
 overflow_cast-frame c = omega (arith, (small (goal.at.overflow_cast-frame c).Else-not-is_framed).first)
@@ -86,7 +76,7 @@ loop-day-preserved c =
     let a = l.args in (
       ap (λ (h : Held). held_at h (l.loop-day.at.cursor.place + a.frame.times)) l.loop-day.invariant.0,
       rw (next_day_lem l.loop-day.day a.frame.times, l.loop-day.invariant.1),
-      l.loop-day.invariant.2 ∙ leads_on _ _ _ _ _ _ e.loop-day-test.true (passes here.After-is_passed ∙ not-false _ e.if-not-is_passed.false-raw),
+      l.loop-day.invariant.2 ∙ leads_on _ _ _ _ _ _ e.loop-day-test.true (passes here.After-is_passed ∙ e.if-not-is_passed.false),
     )
 
 pub returns-after-loop-day : goal.returns-after-loop-day
@@ -98,4 +88,4 @@ pub returns-then-not-is_passed : goal.returns-then-not-is_passed
 returns-then-not-is_passed c =
     let here = goal.at.returns-then-not-is_passed c in
     let l = c in
-    passed_so here.At-loop-day (leads_off _ _ _ _ _ _ c.loop-day-test.true (passes here.After-is_passed ∙ not-true _ c.if-not-is_passed.true-raw))
+    passed_so here.At-loop-day (leads_off _ _ _ _ _ _ c.loop-day-test.true (passes here.After-is_passed ∙ c.if-not-is_passed.true))

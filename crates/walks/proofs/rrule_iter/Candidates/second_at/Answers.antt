@@ -2,22 +2,9 @@
 -- Assumes nothing.
 use mathlib.Core.Path.{◌∙◌}
 use Prim.Native.Nat.{◌%◌}
-use native.Mathlib.Nat.{div-mul-le_self}
-use native.Mathlib.Omega.{arith}
 use Rattle.walks.specs.Walks.{in_year}
 use Rattle.walks.proofs.SecondLaws.{second_by}
 use Rattle.walks.proofs.rrule_iter.Candidates.second_at.Goals as goal
-
-pub overflow_cast-first : goal.overflow_cast-first
-overflow_cast-first c = omega arith
-
-pub overflow_mul-day : goal.overflow_mul-day
-overflow_mul-day c =
-    let a = c.args.self.now in
-    rw c.quotient-day.ensures (omega (arith, div-mul-le_self c.args.number a.frame.times))
-
-pub overflow_sub-number : goal.overflow_sub-number
-overflow_sub-number c = rw c.quotient-day.ensures (div-mul-le_self _ _)
 
 pub returns : goal.returns
 returns c =
