@@ -9,6 +9,7 @@ use walks::rrule_iter::{Bounds, Candidates, Held, Walked, Why, is_framed};
 
 // The walk over the days and their times, from the place on: each candidate is passed, and handed out if it is not before the start. A full
 // buffer, UNTIL and COUNT leave it from inside. Where a sum could wrap, it does nothing.
+// The nest of loops is named by the design. walk_places has the same steps: as a function they miss a bar of speed (docs/DECISIONS.md, "The run").
 pub fn walk_days(candidates: &Candidates, bounds: Bounds, held: Held, buffer: &mut [u64]) -> Walked
     ensures walked { walked_by result buffer.new
         ≡ days_walk candidates.now.frame bounds held candidates.now.days.now candidates.now.lists.now buffer.old }
@@ -24,9 +25,9 @@ pub fn walk_days(candidates: &Candidates, bounds: Bounds, held: Held, buffer: &m
         return Walked { why, held: at };
     }
     let first_day = quotient(at.cursor.place, frame.times);
-    let mut time = at.cursor.place - first_day * frame.times;
+    let mut from = at.cursor.place - first_day * frame.times;
     'days: for day in first_day as usize..frame.days {
-        while time < frame.times {
+        for time in from..frame.times {
             let slot = at.handed;
             if slot == buffer.len() {
                 why = Why::Full;
@@ -39,7 +40,6 @@ pub fn walk_days(candidates: &Candidates, bounds: Bounds, held: Held, buffer: &m
             }
             let place = at.cursor.place + 1;
             at.cursor.place = place;
-            time += 1;
             if second < bounds.start {
                 continue;
             }
@@ -52,7 +52,7 @@ pub fn walk_days(candidates: &Candidates, bounds: Bounds, held: Held, buffer: &m
                 break 'days;
             }
         }
-        time = 0;
+        from = 0;
     }
     Walked { why, held: at }
 }

@@ -1,6 +1,6 @@
 -- `crossing::rrule_iter::walk_days` meets its contract. Each loop's invariant: what is left of the walk gives what the whole gives.
 -- Assumes nothing.
-use Prim.Native.Nat.{ℕ, ◌+◌, ◌*◌, ◌-◌, ◌≤◌, ◌<◌}
+use Prim.Native.Nat.{ℕ, ◌+◌, ◌*◌, ◌≤◌, ◌<◌}
 use mathlib.Core.Path.{◌≡◌}
 use mathlib.Core.List.{List}
 use lib.ListN.{length}
@@ -21,14 +21,8 @@ invariant-loop-time l =
     × (walk_from l.bounds (second_at l.frame l.candidates.days.now l.candidates.lists.now) (l.frame.days * l.frame.times) l.initial.at l.initial.buffer
     ≡ walk_from l.bounds (second_at l.frame l.candidates.days.now l.candidates.lists.now) (l.frame.days * l.frame.times) l.at l.buffer)
 
-abbrev pub decreases-loop-time : goal.decreases-loop-time
-decreases-loop-time l = l.frame.times - l.time
-
 abbrev pub invariant-days : goal.invariant-days
 invariant-days l =
-    (l.why ≡ Why.Through) × (l.time < l.frame.times) × (l.at.cursor.place ≡ l.day * l.frame.times + l.time) × Counted l.initial.at l.at l.initial.buffer l.buffer
+    (l.why ≡ Why.Through) × (l.from < l.frame.times) × (l.at.cursor.place ≡ l.day * l.frame.times + l.from) × Counted l.initial.at l.at l.initial.buffer l.buffer
     × (walk_from l.bounds (second_at l.frame l.candidates.days.now l.candidates.lists.now) (l.frame.days * l.frame.times) l.initial.at l.initial.buffer
     ≡ walk_from l.bounds (second_at l.frame l.candidates.days.now l.candidates.lists.now) (l.frame.days * l.frame.times) l.at l.buffer)
-
-abbrev pub decreases-days : goal.decreases-days
-decreases-days l = l.frame.days - l.day
