@@ -7,6 +7,7 @@ use passing::rrule_iter::{is_late, is_reached, is_ready};
 use walks::rrule_iter::{Bounds, Candidates, Held, Walked, Why, is_framed};
 
 // The walk over the kept candidates, where positions choose: their numbers stand in places. No period keeps more than these.
+// By number: past the last place there is none, where a slice from the place on would ask for a test. The steps are those of walk_days, see there.
 pub fn walk_places(
     candidates: &Candidates,
     bounds: Bounds,

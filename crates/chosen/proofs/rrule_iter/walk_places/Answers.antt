@@ -7,7 +7,7 @@ use mathlib.Core.Bool.{true, false}
 use lib.ListN.{length, length-set}
 use lib.Dec.{leb}
 use native.Mathlib.Omega.{arith}
-use borrow.Author.Tests.{leb-true, not-true, not-false}
+use borrow.Author.Tests.{leb-true}
 use Rattle.machine.specs.Given.{above}
 use Rattle.rule.proofs.FillLaws.{both}
 use Rattle.walks.specs.declared.rrule_iter.Why.{Why}
@@ -26,7 +26,7 @@ use Rattle.chosen.proofs.rrule_iter.walk_places.Goals.{After-second_at-second, A
 
 -- behind the guard a walk may be, and no more places are told than there are
 few : (c : Else-not-kept-is_framed) → c.args.kept ≤ 732
-few c = leb-true _ _ (both (leb c.args.kept 732) _ (not-false _ c.if-not-kept-is_framed.false-raw)).0
+few c = leb-true _ _ (both (leb c.args.kept 732) _ c.if-not-kept-is_framed.false).0
 
 walkable : (c : Else-not-kept-is_framed) →
     let a = c.args in
@@ -34,14 +34,14 @@ walkable : (c : Else-not-kept-is_framed) →
 walkable c =
     let a = c.args in
     walkable_by a.candidates.now.frame a.bounds a.held a.buffer.now _ _ true c.is_framed.ensures c.is_ready.ensures
-    (both (leb a.kept 732) _ (not-false _ c.if-not-kept-is_framed.false-raw)).1
+    (both (leb a.kept 732) _ c.if-not-kept-is_framed.false).1
 
 framed : (c : After-second_at-second) → is_framed c.args.candidates.now.frame ≡ true
 framed c =
     let a = c.args in
     (both (is_framed a.candidates.now.frame) _
     (walkable_by a.candidates.now.frame a.bounds a.held a.buffer.now _ _ true c.is_framed.ensures c.is_ready.ensures
-    (both (leb a.kept 732) _ (not-false _ c.if-not-kept-is_framed.false-raw)).1)).0
+    (both (leb a.kept 732) _ c.if-not-kept-is_framed.false).1)).0
 
 ready : (c : Else-not-kept-is_framed) →
     let a = c.args in
@@ -50,7 +50,7 @@ ready c = (walkable_told _ _ _ _ (walkable c)).1
 
 -- the same at a turn of the loop
 few_kept : (c : At-loop-i) → c.args.kept ≤ 732
-few_kept c = leb-true _ _ (both (leb c.args.kept 732) _ (not-false _ c.if-not-kept-is_framed.false-raw)).0
+few_kept c = leb-true _ _ (both (leb c.args.kept 732) _ c.if-not-kept-is_framed.false).0
 
 still_walkable : (c : At-loop-i) →
     let a = c.args in
@@ -58,7 +58,7 @@ still_walkable : (c : At-loop-i) →
 still_walkable c =
     let a = c.args in
     walkable_by a.candidates.now.frame a.bounds a.held a.buffer.now _ _ true c.is_framed.ensures c.is_ready.ensures
-    (both (leb a.kept 732) _ (not-false _ c.if-not-kept-is_framed.false-raw)).1
+    (both (leb a.kept 732) _ c.if-not-kept-is_framed.false).1
 
 -- the whole walk is what is left of it at a turn of the loop
 whole : (c : At-loop-i) →
@@ -69,25 +69,21 @@ whole c = places_walked _ _ _ _ _ _ _ _ (few_kept c) (still_walkable c) ∙ c.lo
 
 -- a slot is free
 free : (c : Else-slot-buffer) →
-    let l = c in
-    l.loop-i.at.handed ≡ length l.loop-i.buffer → ⊥
+    c.loop-i.at.handed ≡ length c.loop-i.buffer → ⊥
 free c e = omega (arith, e, c.if-slot-buffer.false)
 
 -- the candidate in hand, as the second that the code has
 in_hand : (c : After-second_at-second) →
-    let l = c in
-    let a = l.args in
-    c.second_at-second.result ≡ second_chosen a.candidates.now.frame a.candidates.now.days.now a.candidates.now.lists.now a.places.now l.loop-i.at.cursor.place
+    let a = c.args in
+    c.second_at-second.result ≡ second_chosen a.candidates.now.frame a.candidates.now.days.now a.candidates.now.lists.now a.places.now c.loop-i.at.cursor.place
 in_hand c =
-    let l = c in
-    let a = l.args in
-    second_chosen_lem _ _ _ _ _ l.loop-i.i _ l.loop-i.invariant.1
+    let a = c.args in
+    second_chosen_lem _ _ _ _ _ c.loop-i.i _ c.loop-i.invariant.1
     (c.second_at-second.ensures ∙ year_kept a.candidates.now.frame a.candidates.now.days.now a.candidates.now.lists.now _ (framed c))
 
 -- it is not above UNTIL
 on_time : (c : Else-is_late) →
-    let k = c in
-    above (bound_of k.args.bounds.until) k.second_at-second.result ≡ false
+    above (bound_of c.args.bounds.until) c.second_at-second.result ≡ false
 on_time c = sym c.is_late.ensures ∙ c.if-is_late.false
 
 -- the buffer is short enough that neither count can wrap
@@ -100,112 +96,71 @@ number_small c =
     let p : c.args.held.cursor.number < 2 ^ 63 = (walkable_told _ _ _ _ (still_walkable c)).1.number in
     omega (arith, c.loop-i.invariant.2, c.loop-i.invariant.3, c.loop-i.invariant.4)
 
-handed_small : (c : At-loop-i) → c.loop-i.at.handed < 2 ^ 63
-handed_small c = omega (arith, room c, c.loop-i.invariant.4)
-
-pub returns-then-not-kept-is_framed : goal.returns-then-not-kept-is_framed
-returns-then-not-kept-is_framed c =
-    let a = c.args in record {
-      walked = places_left a.candidates.now.frame a.bounds a.held a.buffer.now a.kept a.places.now a.candidates.now.days.now a.candidates.now.lists.now _ _
-          c.is_framed.ensures c.is_ready.ensures (not-true _ c.if-not-kept-is_framed.true-raw);
-      state = refl;
-    }
+pub returns-then-not-kept-is_framed-clause-walked : goal.returns-then-not-kept-is_framed-clause-walked
+returns-then-not-kept-is_framed-clause-walked c =
+    let a = c.args in
+    places_left a.candidates.now.frame a.bounds a.held a.buffer.now a.kept a.places.now a.candidates.now.days.now a.candidates.now.lists.now _ _
+    c.is_framed.ensures c.is_ready.ensures c.if-not-kept-is_framed.true
 
 pub loop-i-init : goal.loop-i-init
 loop-i-init c =
     (refl, refl, search rules, search rules, (ready (goal.at.loop-i-init c).Else-not-kept-is_framed).handed, refl, refl, refl)
 
-pub offset_bounds-places-i : goal.offset_bounds-places-i
-offset_bounds-places-i c = omega (arith, few (goal.at.offset_bounds-places-i c).Else-not-kept-is_framed)
-
-pub bounds-places-i : goal.bounds-places-i
-bounds-places-i c = omega (arith, few (goal.at.bounds-places-i c).Else-not-kept-is_framed)
-
-pub overflow_add-place : goal.overflow_add-place
-overflow_add-place c = omega (arith, few (goal.at.overflow_add-place c).Else-not-kept-is_framed)
-
 pub loop-i-preserved-then-second-bounds : goal.loop-i-preserved-then-second-bounds
 loop-i-preserved-then-second-bounds c =
-    let here = goal.at.loop-i-preserved-then-second-bounds c in
-    let k = c in
-    let e = k in
-    let l = e in (
-      l.loop-i.invariant.0,
+    let here = goal.at.loop-i-preserved-then-second-bounds c in (
+      c.loop-i.invariant.0,
       omega arith,
       omega arith,
       omega arith,
       omega arith,
       omega arith,
-      l.loop-i.invariant.6
+      c.loop-i.invariant.6
           ∙ rest_pass _ _ _ _ _ (omega arith) _ (in_hand here.After-second_at-second) (free here.Else-slot-buffer) (on_time here.Else-is_late) c.if-second-bounds.true,
-      l.loop-i.invariant.7,
+      c.loop-i.invariant.7,
     )
 
 pub overflow_sub-buffer : goal.overflow_sub-buffer
 overflow_sub-buffer c =
-    let l = c in
     omega (arith, c.if-second-bounds.false, (ready (goal.at.overflow_sub-buffer c).Else-not-kept-is_framed).start)
-
-pub offset_bounds-buffer-slot : goal.offset_bounds-buffer-slot
-offset_bounds-buffer-slot c = omega (arith, room (goal.at.offset_bounds-buffer-slot c).At-loop-i)
 
 pub overflow_add-number : goal.overflow_add-number
 overflow_add-number c = record { fits = omega (arith, number_small (goal.at.overflow_add-number c).At-loop-i) }
 
-pub overflow_add-at : goal.overflow_add-at
-overflow_add-at c =
-    let l = c in
-    record { fits = omega (arith, handed_small (goal.at.overflow_add-at c).At-loop-i) }
-
 pub loop-i-preserved : goal.loop-i-preserved
 loop-i-preserved c =
-    let here = goal.at.loop-i-preserved c in
-    let t = c in
-    let k = t in
-    let e = k in
-    let l = e in (
-      l.loop-i.invariant.0,
+    let here = goal.at.loop-i-preserved c in (
+      c.loop-i.invariant.0,
       omega arith,
       omega arith,
       omega arith,
       simp length-set (omega arith),
       simp length-set (omega arith),
-      l.loop-i.invariant.6
-          ∙ rest_hand _ _ _ _ _ (omega arith) _ (in_hand here.After-second_at-second) (free here.Else-slot-buffer) (on_time here.Else-is_late) t.if-second-bounds.false
+      c.loop-i.invariant.6
+          ∙ rest_hand _ _ _ _ _ (omega arith) _ (in_hand here.After-second_at-second) (free here.Else-slot-buffer) (on_time here.Else-is_late) c.if-second-bounds.false
           (sym c.is_reached.ensures ∙ c.if-is_reached.false),
-      l.loop-i.invariant.7,
+      c.loop-i.invariant.7,
     )
 
-pub returns-after-loop-i : goal.returns-after-loop-i
-returns-after-loop-i c =
-    let here = goal.at.returns-after-loop-i c in
-    let l = c in
-    record { walked = sym (whole here.At-loop-i ∙ rest_over _ _ _ _ _ (omega arith) ∙ ap (λ (w : Why). stops w l.loop-i.at l.loop-i.buffer) (sym l.loop-i.invariant.0)); state = l.loop-i.invariant.7 }
+pub returns-after-loop-i-clause-walked : goal.returns-after-loop-i-clause-walked
+returns-after-loop-i-clause-walked c =
+    let here = goal.at.returns-after-loop-i-clause-walked c in
+    sym (whole here.At-loop-i ∙ rest_over _ _ _ _ _ (omega arith) ∙ ap (λ (w : Why). stops w c.loop-i.at c.loop-i.buffer) (sym c.loop-i.invariant.0))
 
-pub returns-then-slot-buffer : goal.returns-then-slot-buffer
-returns-then-slot-buffer c =
-    let here = goal.at.returns-then-slot-buffer c in
-    let l = c in
-    record { walked = sym (whole here.At-loop-i ∙ rest_full _ _ _ _ _ (omega arith) c.if-slot-buffer.true); state = l.loop-i.invariant.7 }
+pub returns-then-slot-buffer-clause-walked : goal.returns-then-slot-buffer-clause-walked
+returns-then-slot-buffer-clause-walked c =
+    let here = goal.at.returns-then-slot-buffer-clause-walked c in
+    sym (whole here.At-loop-i ∙ rest_full _ _ _ _ _ (omega arith) c.if-slot-buffer.true)
 
-pub returns-then-is_late : goal.returns-then-is_late
-returns-then-is_late c =
-    let here = goal.at.returns-then-is_late c in
-    let k = c in
-    let e = k in
-    let l = e in
-    record { walked = sym (whole here.At-loop-i ∙ rest_until _ _ _ _ _ (omega arith) _ (in_hand here.After-second_at-second) (free here.Else-slot-buffer) (sym c.is_late.ensures ∙ c.if-is_late.true)); state = l.loop-i.invariant.7 }
+pub returns-then-is_late-clause-walked : goal.returns-then-is_late-clause-walked
+returns-then-is_late-clause-walked c =
+    let here = goal.at.returns-then-is_late-clause-walked c in
+    sym (whole here.At-loop-i ∙ rest_until _ _ _ _ _ (omega arith) _ (in_hand here.After-second_at-second) (free here.Else-slot-buffer) (sym c.is_late.ensures ∙ c.if-is_late.true))
 
-pub returns-then-is_reached : goal.returns-then-is_reached
-returns-then-is_reached c =
-    let here = goal.at.returns-then-is_reached c in
-    let t = c in
-    let k = t in
-    let e = k in
-    let l = e in record {
-      walked = sym
-          (whole here.At-loop-i
-          ∙ rest_count _ _ _ _ _ (omega arith) _ (in_hand here.After-second_at-second) (free here.Else-slot-buffer) (on_time here.Else-is_late) t.if-second-bounds.false
-          (sym c.is_reached.ensures ∙ c.if-is_reached.true));
-      state = l.loop-i.invariant.7;
-    }
+pub returns-then-is_reached-clause-walked : goal.returns-then-is_reached-clause-walked
+returns-then-is_reached-clause-walked c =
+    let here = goal.at.returns-then-is_reached-clause-walked c in
+    sym
+    (whole here.At-loop-i
+    ∙ rest_count _ _ _ _ _ (omega arith) _ (in_hand here.After-second_at-second) (free here.Else-slot-buffer) (on_time here.Else-is_late) c.if-second-bounds.false
+    (sym c.is_reached.ensures ∙ c.if-is_reached.true))

@@ -1,6 +1,6 @@
 -- `chosen::rrule_iter::walk_places` meets its contract. The loop's invariant: what is left of the walk gives what the whole gives.
 -- Assumes nothing.
-use Prim.Native.Nat.{◌+◌, ◌-◌, ◌≤◌}
+use Prim.Native.Nat.{◌+◌, ◌≤◌}
 use mathlib.Core.Path.{◌≡◌}
 use lib.ListN.{length}
 use Rattle.walks.specs.declared.rrule_iter.Why.{Why}
@@ -13,6 +13,3 @@ invariant-loop-i l =
     × (l.at.handed ≤ length l.buffer) × (length l.buffer ≡ length l.initial.buffer)
     × (walk_from l.bounds (second_chosen l.candidates.frame l.candidates.days.now l.candidates.lists.now l.places) l.kept l.initial.at l.initial.buffer ≡ walk_from l.bounds (second_chosen l.candidates.frame l.candidates.days.now l.candidates.lists.now l.places) l.kept l.at l.buffer)
     × (l.at.cursor.state ≡ l.initial.at.cursor.state)
-
-abbrev pub decreases-loop-i : goal.decreases-loop-i
-decreases-loop-i l = l.kept - l.i
