@@ -5,6 +5,7 @@ ghost use Rattle.rule.specs.Filling.{no_days, fill};
 use crate::entries::take;
 use basics::lists::is_empty;
 use basics::rrule::frequency_number;
+use calendar::utils::EPOCH;
 use dates::utils;
 use rule::rrule::Rule;
 
@@ -21,7 +22,7 @@ pub(crate) fn filled(rule: &Rule) -> Rule
     requires { rule.now.start ≤ 253402300799 }
     ensures { result ≡ fill rule.now }
 {
-    let second = rule.start + 62135596800;
+    let second = rule.start + EPOCH;
     let day = (second / 86400) as u32;
     let date = utils::date_from_ordinal(day);
     let number = frequency_number(rule.freq);

@@ -1,5 +1,5 @@
 // The check: from what is given to a record, or a refusal.
-ghost use Rattle.std.specs.Prelude.{◌≡◌, ◌≤◌};
+ghost use Rattle.std.specs.Prelude.{◌≡◌, ◌≤◌, Ok};
 ghost use Rattle.rule.specs.Lists.{set_of};
 ghost use Rattle.rule.specs.Raw.{entries, pairs, lists_of, raw_of};
 ghost use Rattle.rule.specs.Filling.{given, checked};
@@ -47,11 +47,10 @@ fn not_rising(lists: &ByLists) -> bool
         | !is_rising(lists.bysetpos)
 }
 
-// The verdict of the rows before; where they have no refusal, this row's, if it applies.
-fn or_refused(verdict: Result<(), Refusal>, refusal: Refusal, applies: bool) -> Result<(), Refusal>
-    ensures { result ≡ or_refused verdict refusal applies }
+// A row of the table: its refusal, if it applies.
+fn row(applies: bool, refusal: Refusal) -> Result<(), Refusal>
+    ensures { result ≡ or_refused (Ok tt) refusal applies }
 {
-    verdict?;
     if applies { Err(refusal) } else { Ok(()) }
 }
 
@@ -133,20 +132,18 @@ pub fn verdict_of(given: &Unvalidated, start: u64) -> Result<(), Refusal>
         !lists.bymonthday.is_empty(),
     );
     let until = is_until_out(given.until);
-    let mut verdict = Ok(());
-    verdict = or_refused(verdict, Refusal::FrequencyAbove, 6 < given.freq);
-    verdict = or_refused(verdict, Refusal::WeekStartAbove, 6 < given.wkst);
-    verdict = or_refused(verdict, Refusal::StartOut, LAST_INSTANT < start);
-    verdict = or_refused(verdict, Refusal::UntilOut, until);
-    verdict = or_refused(verdict, Refusal::EntryOut, entry);
-    verdict = or_refused(verdict, Refusal::NotRising, order);
-    verdict = or_refused(verdict, Refusal::MixedDays, mixed);
-    verdict = or_refused(verdict, Refusal::NthMisplaced, misplaced);
-    verdict = or_refused(verdict, Refusal::PositionsAlone, alone);
-    verdict = or_refused(verdict, Refusal::Nought, nought);
-    verdict = or_refused(verdict, Refusal::CountAndUntil, both);
-    verdict = or_refused(verdict, Refusal::ListMisplaced, stray);
-    verdict
+    row(6 < given.freq, Refusal::FrequencyAbove)
+        .and(row(6 < given.wkst, Refusal::WeekStartAbove))
+        .and(row(LAST_INSTANT < start, Refusal::StartOut))
+        .and(row(until, Refusal::UntilOut))
+        .and(row(entry, Refusal::EntryOut))
+        .and(row(order, Refusal::NotRising))
+        .and(row(mixed, Refusal::MixedDays))
+        .and(row(misplaced, Refusal::NthMisplaced))
+        .and(row(alone, Refusal::PositionsAlone))
+        .and(row(nought, Refusal::Nought))
+        .and(row(both, Refusal::CountAndUntil))
+        .and(row(stray, Refusal::ListMisplaced))
 }
 
 // The check: the record, filled in; or the lowest refusal that applies.
