@@ -8,7 +8,6 @@ use mathlib.Core.List.{List, ◌∷◌, ◌++◌}
 use lib.ListN.{length-append}
 use borrow.Author.Tests.{ltb-false}
 use Rattle.rule.specs.declared.rrule.Refusal.{Refusal}
-use Rattle.rule.specs.Refusals.{Verdict}
 use Rattle.rule.specs.Raw.{Raw}
 use Rattle.rule.specs.Refusals.{verdict}
 use Rattle.rule.proofs.RefusalLaws.{none_given}

@@ -12,7 +12,6 @@ use lib.IntN.{ℤ}
 use borrow.Author.Tests.{ltb-false, eqb-true, not-false}
 use Rattle.rule.specs.declared.rrule.Range.{Range}
 use Rattle.rule.specs.declared.rrule.Refusal.{Refusal}
-use Rattle.rule.specs.Refusals.{Verdict}
 use Rattle.rule.specs.Instants.{last_instant}
 use Rattle.rule.specs.Lists.{months, monthdays, yeardays, weeknos, nths, weekdays, hours, minutes, seconds, positions, slots}
 use Rattle.rule.specs.Raw.{RawLists, Raw, raw, raw_lists}

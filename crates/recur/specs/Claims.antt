@@ -1,7 +1,6 @@
 -- What is claimed of texts; proofs/ has a proof of each claim, under the same name in small letters.
 -- Assumes nothing.
 use Rattle.std.specs.Prelude.{ℕ, ◌≤◌, ◌<◌, ◌≡◌, List, [], ◌∷◌, ◌++◌, length, take, ℤ, nat_abs, Option, Some, None, Ok, Err}
-use Rattle.rule.specs.Refusals.{Verdict}
 use Rattle.rule.specs.Instants.{last_instant}
 use Rattle.rule.specs.Raw.{RawLists, Raw}
 use Rattle.rule.specs.Refusals.{verdict}

@@ -4,7 +4,6 @@ use Rattle.std.specs.Prelude.{ℕ, zero, suc, ◌+◌, ◌/◌, ◌%◌, Bool, t
 use Rattle.std.proofs.lemmas.List.Edits.{sets}
 use Rattle.calendar.specs.Calendar.{date_of}
 use Rattle.calendar.specs.declared.utils.Date.{Date}
-use Rattle.rule.specs.Refusals.{Verdict}
 use Rattle.rule.specs.Instants.{second, day_of, hour_of, minute_of, second_of}
 use Rattle.rule.specs.Raw.{RawLists, Raw}
 use Rattle.rule.specs.Refusals.{verdict}
