@@ -7,6 +7,7 @@ use mathlib.Core.List.{List}
 use native.Mathlib.Omega.{arith}
 use lib.Dec.{ltb}
 use lib.ListN.{length}
+use Rattle.std.proofs.lemmas.Bool.{and_right}
 use borrow.Author.Tests.{le-leb, lt-leb, lt-ltb}
 use Rattle.years.specs.declared.lists.Asked.{Asked}
 use Rattle.years.specs.declared.iterinfo.IterInfo.{IterInfo}
@@ -21,10 +22,6 @@ use Rattle.opening.specs.Opening.{frame_of, kept_count, chosen_over, no_period, 
 pub few_days : (a : Asked) (info : IterInfo) (l : DayLists) (from to : ℕ) → length (day_set a info l from to) ≤ 373
 unfolding day_set
 few_days a info l from to = omega (arith, passing_short (place_passes a info l) (min to 373 - from) from)
-
-both_false : (b : Bool) → (b && false) ≡ false
-both_false true = refl
-both_false false = refl
 
 module _ (s : Shape) (first count tick : ℕ) (clock bysetpos : List Bool) where
   abbrev frame : Frame
@@ -46,7 +43,7 @@ module _ (s : Shape) (first count tick : ℕ) (clock bysetpos : List Bool) where
 
   pub too_many : 86400 < frame.times → Closed
   unfolding is_open
-  too_many h = closed (rw (lt-leb frame.times 86400 h) (both_false (ltb 0 count)))
+  too_many h = closed (rw (lt-leb frame.times 86400 h) (and_right (ltb 0 count) false refl))
 
   -- or some may be
   pub some_days : 0 < count → frame.times ≤ 86400

@@ -1,6 +1,6 @@
 -- A period opened: its candidates by number, and how many are kept.
 -- Assumes nothing.
-use Rattle.std.specs.Prelude.{ℕ, ◌-◌, ◌*◌, ◌/◌, Bool, ◌&&◌, List, length, leb, ltb, if◌then◌else◌}
+use Rattle.std.specs.Prelude.{ℕ, ◌-◌, ◌*◌, ◌/◌, Bool, ◌&&◌, List, length, replicate, leb, ltb, if◌then◌else◌}
 use Rattle.rule.specs.declared.rrule.Frequency.{Frequency}
 use Rattle.rule.specs.Moves.{ticks}
 use Rattle.years.specs.declared.iterinfo.IterInfo.{IterInfo}
@@ -14,6 +14,7 @@ use Rattle.walks.specs.declared.rrule_iter.Frame.{Frame}
 use Rattle.walks.specs.Walks.{second_at, second_chosen}
 use Rattle.plans.specs.declared.plan.Shape.{Shape}
 use Rattle.opening.specs.declared.period.Period.{Period}
+use Rattle.opening.specs.declared.period.OpenPeriod.{OpenPeriod}
 
 -- the second of its day at which a period with this tick begins; of any number, 0 where a day has no such tick
 abbrev pub tick_begins : Frequency → ℕ → ℕ
@@ -57,6 +58,11 @@ days_by s info l span = day_set s.asked info l (span.from - info.year.first) (sp
 -- times than seconds.
 unfoldable pub no_period : Frequency → Counts → (first : ℕ) → Period
 no_period freq counts first = record { frame = record { freq = freq; begins = 0; counts = counts; first = first; days = 0; times = 0 }; kept = 0 }
+
+-- what is open before the first period
+unfoldable pub none_open : Shape → OpenPeriod
+unfolding no_period
+none_open s = record { period = no_period s.freq s.counts 0; days = replicate 373 0; places = replicate 732 0 }
 
 unfoldable pub is_open : ℕ → Frame → Bool
 is_open count f = ltb 0 count && leb f.times 86400

@@ -3,7 +3,7 @@ ghost use Rattle.std.specs.Prelude.{◌≡◌, ◌≤◌, length};
 ghost use Rattle.std.proofs.lemmas.List.Edits.{sets};
 ghost use Rattle.days.specs.Filters.{rule_lists};
 ghost use Rattle.days.specs.DaySets.{day_set};
-ghost use Rattle.opening.specs.Opening.{tick_second, frame_of, kept_count, chosen_over, days_by, no_period, period_by, chosen_by};
+ghost use Rattle.opening.specs.Opening.{tick_second, frame_of, kept_count, chosen_over, days_by, no_period, none_open, period_by, chosen_by};
 
 use days::iterinfo::get_dayset;
 use plain::iterinfo::{days_by_month, is_month_alone, is_plain, plain_days};
@@ -24,9 +24,10 @@ pub struct Period {
     pub kept: u32,
 }
 
-// The period opened last, the places of its passing days and, with positions, the numbers of its kept candidates: as many as it says, the
-// slots behind them hold what they held.
-pub struct Opened {
+// A period that is open: the places of its passing days and, with positions, the numbers of its kept candidates stand in the first slots; what
+// stood in the slots behind them stays.
+#[derive(Clone, Copy)]
+pub struct OpenPeriod {
     pub period: Period,
     pub days: [u16; 373],
     pub places: [u32; 732],
@@ -111,6 +112,17 @@ fn none_kept(shape: Shape, first: u64) -> Period
     Period { frame, kept: 0 }
 }
 
+// What is open before the first period: nothing is kept, and each slot is 0.
+pub fn none_open(shape: Shape) -> OpenPeriod
+    ensures { result ≡ none_open shape }
+{
+    OpenPeriod {
+        period: none_kept(shape, 0),
+        days: [0; 373],
+        places: [0; 732],
+    }
+}
+
 // Opens the period with this stretch of days and this tick, in the year that its first day lies in: the places of its passing days are
 // written, and with positions those of its kept candidates. Where no day passes, as in many periods of a rule, no more is opened.
 pub fn open_period(
@@ -119,7 +131,7 @@ pub fn open_period(
     tick: u64,
     rule: &Rule,
     info: &IterInfo,
-    opened: &mut Opened,
+    opened: &mut OpenPeriod,
 )
     ensures period { opened.new.period ≡ period_by plan.now.shape info.now.year.first
         (length (days_by plan.now.shape info.now (rule_lists rule.now) span)) tick plan.now.clock rule.now.bysetpos }
