@@ -5,7 +5,7 @@ ghost use Rattle.rule.specs.Run.{count_of};
 ghost use Rattle.fitting.specs.Fitting.{end_in, candidate_of, next_of, fits_period, is_fit};
 
 use machine::Cursor;
-use opening::period::Opened;
+use opening::period::OpenPeriod;
 use plans::plan::Plan;
 use rule::rrule::Frequency;
 use stretches::counter_date::Days;
@@ -40,7 +40,7 @@ fn candidate_of(positioned: bool, places: &[u32], i: u32) -> u32
 }
 
 // The second of kept number i, or the first second after the period where there is none such.
-fn next_second(plan: &Plan, opened: &Opened, end: u64, i: u32) -> u64
+fn next_second(plan: &Plan, opened: &OpenPeriod, end: u64, i: u32) -> u64
     ensures { result ≡ next_of plan.now.shape.positioned opened.now.period end i opened.now.days plan.now.lists opened.now.places }
 {
     if opened.period.kept <= i {
@@ -63,7 +63,7 @@ fn is_due(bounds: Bounds, number: u64, next: u64) -> bool
 }
 
 // Whether a cursor's place and number fit its period, which ends before this second.
-fn fits_period(plan: &Plan, opened: &Opened, end: u64, cursor: Cursor) -> bool
+fn fits_period(plan: &Plan, opened: &OpenPeriod, end: u64, cursor: Cursor) -> bool
     ensures { result ≡ fits_period plan.now.shape.positioned plan.now.bounds opened.now.period end cursor
         opened.now.days plan.now.lists opened.now.places }
 {
@@ -75,7 +75,7 @@ fn fits_period(plan: &Plan, opened: &Opened, end: u64, cursor: Cursor) -> bool
 }
 
 // Whether a cursor fits the period with this stretch of days and this tick.
-pub fn is_fit(plan: &Plan, span: Days, tick: u64, opened: &Opened, cursor: Cursor) -> bool
+pub fn is_fit(plan: &Plan, span: Days, tick: u64, opened: &OpenPeriod, cursor: Cursor) -> bool
     ensures { result ≡ is_fit plan.now.shape span tick plan.now.bounds opened.now.period cursor
         opened.now.days plan.now.lists opened.now.places }
 {

@@ -6,7 +6,7 @@ use native.Mathlib.Nat.{mul-le-mul}
 use native.Mathlib.Omega.{arith}
 use lib.Dec.{leb}
 use borrow.Author.Tests.{leb-false}
-use Rattle.rule.proofs.GivenLaws.{neither}
+use Rattle.std.proofs.lemmas.Bool.{or_parts}
 use Rattle.fitting.specs.Fitting.{end_in}
 use Rattle.units.proofs.Units.{unit_small}
 use Rattle.fitting.proofs.cursors.end_of.Goals as goal
@@ -15,7 +15,7 @@ use Rattle.fitting.proofs.cursors.end_of.Goals.{After-saturating_sub, After-unit
 -- behind the guard the numbers are small
 small : (c : Else-to-tick) → (c.args.to < 4194304) × (c.args.tick < 86400)
 small c =
-    let w = neither (leb 4194304 c.args.to) (leb 86400 c.args.tick) c.if-to-tick.false in
+    let w = or_parts (leb 4194304 c.args.to) (leb 86400 c.args.tick) c.if-to-tick.false in
     (leb-false _ _ w.0, leb-false _ _ w.1)
 
 last_day : (c : After-saturating_sub) → c.saturating_sub.result * 86400 ≤ 4194304 * 86400
