@@ -18,7 +18,6 @@ use Rattle.machine.specs.Promises.{Reason, KeepsTo}
 use Rattle.machine.specs.Faults.{refused_answer}
 use Rattle.machine.proofs.Refusals.{record_refused, cursor_refused, refused_as_given}
 use Rattle.rule.specs.declared.rrule.Rule.{Rule}
-use Rattle.rule.specs.Filling.{checked}
 use Rattle.rule.specs.Meaning.{RisesFrom}
 use Rattle.rule.specs.Records.{yielded}
 use Rattle.rule.specs.Run.{periods, fresh_of, run_of}
@@ -114,9 +113,8 @@ all_keep r c (x ∷ xs) p q = (
 )
 
 pub demand_three : DemandThree
-demand_three w ok xs p =
-    let r : Rule = (checked w).rule in
-    let l = rule-proofs.demand_three w ok (map given xs) in
+demand_three w r ok xs p =
+    let l = rule-proofs.demand_three w r ok (map given xs) in
     let t = tell r (fresh_of r) xs p in
     let listed : (rule.told_by r (map given xs)).listed ≡ handed_out xs = ap (λ (x : Told ℕ). x.listed) t in
     let state : (rule.told_by r (map given xs)).cursor.state ≡ (left_by (fresh_of r) xs).state = ap (λ (x : Told ℕ). x.cursor.state) t in
@@ -130,13 +128,13 @@ demand_three w ok xs p =
     }
 
 pub demand_three_before : DemandThreeBefore
-demand_three_before w ok one xs p = demand_three w ok xs p
+demand_three_before w r ok one xs p = demand_three w r ok xs p
 
 pub never_by_interval : NeverByInterval
 never_by_interval r good xs p e =
     rule-proofs.never_by_interval r good (map given xs) (ap (λ (x : Told ℕ). x.cursor.state) (tell r (fresh_of r) xs p) ∙ e)
 
 -- what is promised of a call is what the source of `run` states
-pub as_promised : (κs : Lfts 1) (a : Dens κs run-kinds.ps) (x : (res_t run-kinds.r κs).Denot) (e : AtExit (ended_of 1 run-kinds.ps run-kinds.r) κs)
-    → run.Post κs a x e → Promised a.0 a.1.0 (record { buffer = a.1.1.0.now; budget = a.1.1.1.0; answer = x; after = e.1.1.0.now })
+pub as_promised : (κs : Lfts 2) (a : Dens κs run-kinds.ps) (x : (res_t run-kinds.r κs).Denot) (e : AtExit (ended_of 2 run-kinds.ps run-kinds.r) κs)
+    → run.Post κs a x e → Promised a.0.now a.1.0 (record { buffer = a.1.1.0.now; budget = a.1.1.1.0; answer = x; after = e.1.1.0.now })
 as_promised κs a x e p = p

@@ -5,6 +5,7 @@ use mathlib.Core.Path.{◌≡◌, refl, sym, ap, ◌∙◌}
 use mathlib.Core.Bool.{Bool, true, false, ◌&&◌}
 use mathlib.Core.List.{List}
 use lib.Dec.{leb}
+use Rattle.std.proofs.lemmas.Bool.{and_right}
 use Rattle.machine.specs.declared.Cause.{Cause}
 use Rattle.machine.specs.declared.State.{State}
 use Rattle.machine.specs.declared.Fault.{Fault}
@@ -61,8 +62,4 @@ module _ (r : Rule) (c : Cursor) (buffer : List ℕ) (m : ℕ) (a : Answer) wher
       -- a period out of range is no place for a running cursor
       pub out_of_range : in_range r c.k ≡ false → poised (periods r) c ≡ false
       unfolding periods
-      out_of_range e = rw e (no_one (leb 1 r.interval))
-        where
-          no_one : (p : Bool) → (p && false) ≡ false
-          no_one true = refl
-          no_one false = refl
+      out_of_range e = rw e (and_right (leb 1 r.interval) false refl)

@@ -10,10 +10,10 @@ use Rattle.machine.specs.Calls.{Answered}
 use Rattle.listing.proofs.rrule_iter.run.Kinds as run-kinds
 use Rattle.listing.proofs.rrule_iter.run.Reads as run
 
-pub run_has_one : DeterminesBuffer 1 run-kinds.ps run-kinds.r (List ℕ) (λ κs e. e.1.1.0.now) run.Post
+pub run_has_one : DeterminesBuffer 2 run-kinds.ps run-kinds.r (List ℕ) (λ κs e. e.1.1.0.now) run.Post
 run_has_one κs a x y e f p q =
     (ap (λ (z : Answered ℕ). z.answer) (one_answer p q), ap (λ (z : Answered ℕ). z.buffer) (one_answer p q))
 
 -- and it asks nothing of its callers
-pub run_asks_nothing : AsksNothing 1 run-kinds.ps run.requires
+pub run_asks_nothing : AsksNothing 2 run-kinds.ps run.requires
 run_asks_nothing κs a = nothing_asked

@@ -1,7 +1,8 @@
 -- One turn of the run's loop: what is opened is the rule's own period, and what is walked are its kept candidates.
 -- Assumes nothing.
-use Rattle.std.specs.Prelude.{if◌then◌else◌, Option, Some, None}
+use Rattle.std.specs.Prelude.{if◌then◌else◌, Option, Some, None, Result, Ok, Err}
 use Prim.Native.Nat.{ℕ, ◌+◌, ◌-◌, ◌*◌, ◌^◌, ◌≤◌, ◌<◌}
+use mathlib.Core.Logic.{◌⊎◌, inl, inr}
 use mathlib.Core.Path.{◌≡◌, refl, sym, ap, ◌∙◌, subst}
 use mathlib.Core.Bool.{Bool, true, false, ◌&&◌, ◌||◌}
 use mathlib.Core.List.{List}
@@ -10,6 +11,7 @@ use lib.Seq.{sets}
 use lib.Dec.{ltb, leb}
 use native.Mathlib.Omega.{arith}
 use native.Mathlib.Decide.{ℕ_discrete}
+use Rattle.std.proofs.lemmas.Bool.{true≢false, and_parts}
 use borrow.Author.Tests.{leb-true, lt-leb, ltb-true}
 use Rattle.calendar.specs.Calendar.{new_year, year_of}
 use Rattle.machine.specs.declared.Cause.{Cause}
@@ -44,12 +46,11 @@ use Rattle.days.specs.DaySets.{day_set}
 use Rattle.years.specs.Info.{asked_of, info_of, rule_info}
 use Rattle.periods.specs.declared.counter_date.Counter.{Counter}
 use Rattle.stretches.specs.declared.counter_date.Days.{Days}
-use Rattle.periods.specs.declared.counter_date.Reached.{Reached}
 use Rattle.periods.specs.Counters.{counter_at, step_of}
 use Rattle.stretches.specs.Stretches.{days_in}
 use Rattle.moves.specs.Increments.{skipped, landing, arrive, stands, incremented, reached_by}
 use Rattle.moves.specs.Claims.{Flags}
-use Rattle.moves.proofs.Ties.{increment_is_move, k_is, reached_to, reached_no_tick, reached_range}
+use Rattle.moves.proofs.Ties.{increment_is_move, k_is, reached_to, reached_cause}
 use Rattle.moves.proofs.Steps.{skipped_none}
 use Rattle.walks.specs.declared.rrule_iter.Why.{Why}
 use Rattle.walks.specs.declared.rrule_iter.Held.{Held}
@@ -61,6 +62,7 @@ use Rattle.walks.proofs.ByBounds.{walk_by_bounds}
 use Rattle.plans.specs.declared.plan.Plan.{Plan}
 use Rattle.plans.specs.declared.plan.Shape.{Shape}
 use Rattle.opening.specs.declared.period.Period.{Period}
+use Rattle.opening.specs.declared.period.OpenPeriod.{OpenPeriod}
 use Rattle.plans.specs.Plans.{until_second, bounds_of, shape_of, plan_from, plan_of}
 use Rattle.units.specs.Years.{is_in_year, day_in, year_at}
 use Rattle.opening.specs.Opening.{second_kept, days_by, period_by, chosen_by}
@@ -69,7 +71,6 @@ use Rattle.fitting.specs.Fitting.{is_fit}
 use Rattle.opened.proofs.Opened.{opened}
 use Rattle.opened.proofs.Yielded.{good}
 use Rattle.opened.proofs.Spans.{covers_is, info_year, span_from_low, span_from_high, own_year}
-use Rattle.settling.specs.declared.rrule_iter.Settled.{Settled}
 use Rattle.settling.specs.Settling.{answer_of, held_of, moved_to, settled}
 use Rattle.listing.proofs.Entering.{cursor_refused, runs_on}
 use Rattle.listing.proofs.WalkLaws.{left_at, Stays, walk_stays, drop_tabled, settle_stops, Onward, settle_moves, then_moves, then_no_tick, then_range}
@@ -84,26 +85,19 @@ pub record Going (r : Rule) (m : ℕ) (c : Cursor) (b₀ buffer : List ℕ) (k :
   pub run : compute.runs (periods r) m (now_of State.Running (held_of c) b₀) ≡ compute.runs (periods r) (m - held.moves) (now_of State.Running held buffer)
 
 -- What holds at each turn: the counter, the year and the slots; before the cursor is tried, that nothing is done yet.
-pub record At (r : Rule) (m : ℕ) (c : Cursor) (b₀ buffer : List ℕ) (counter : Counter) (held : Held) (tried : Bool) (days places : List ℕ) (info : IterInfo)
+pub record At (r : Rule) (m : ℕ) (c : Cursor) (b₀ buffer : List ℕ) (counter : Counter) (held : Held) (tried : Bool) (opened : OpenPeriod) (info : IterInfo)
     : Type 0 where
   pub counted : counter ≡ counter_at r counter.k
   pub ranged : in_range r counter.k ≡ true
   pub k_is : held.cursor.k ≡ counter.k
   pub y : ℕ
   pub year : info ≡ rule_info r y
-  pub days_room : length days ≡ 373
-  pub places_room : length places ≡ 732
+  pub days_room : length opened.days ≡ 373
+  pub places_room : length opened.places ≡ 732
   pub room : length buffer ≡ length b₀
   pub m_fits : m < 2 ^ 32
   pub fresh : tried ≡ false → (held ≡ held_of c) × (buffer ≡ b₀)
   pub going : tried ≡ true → Going r m c b₀ buffer counter.k held
-
-both_true : (x y : Bool) → (x && y) ≡ true → (x ≡ true) × (y ≡ true)
-both_true true y e = (refl, e)
-both_true false y e = absurd (let z : ◌≡◌ {A = ℕ} 0 1 = cc in omega arith)
-
-clash : {A : Type 0} → ◌≡◌ {A = Bool} true false → A
-clash e = absurd (let z : ◌≡◌ {A = ℕ} 0 1 = cc in omega arith)
 
 -- the bounds of the plan are those that the rule's run is given
 until_is : (u : Option ℕ) → until_of u ≡ bound_of (until_second u)
@@ -115,7 +109,7 @@ coarse_alike : (f : Frequency) (interval : ℕ) (c : Counter) (clock : List Bool
     → incremented f interval c x clock ≡ incremented f interval c y clock
 unfolding incremented
 coarse_alike f interval c clock e x y =
-    ap (λ (n : ℕ). if stands f interval c then arrive f (step_of f interval) c (landing f (step_of f interval) c clock (n + 1)) else Reached.Range) (alike f e)
+    ap (λ (n : ℕ). if stands f interval c then arrive f (step_of f interval) c (landing f (step_of f interval) c clock (n + 1)) else Err Cause.Range) (alike f e)
   where
     alike : (f : Frequency) → is_below Frequency.Daily f ≡ false
         → skipped (ticks f) (step_of f interval) c.tick x ≡ skipped (ticks f) (step_of f interval) c.tick y
@@ -123,9 +117,9 @@ coarse_alike f interval c clock e x y =
     alike Frequency.Monthly e = skipped_none _ _ x ∙ sym (skipped_none _ _ y)
     alike Frequency.Weekly e = skipped_none _ _ x ∙ sym (skipped_none _ _ y)
     alike Frequency.Daily e = skipped_none _ _ x ∙ sym (skipped_none _ _ y)
-    alike Frequency.Hourly e = clash e
-    alike Frequency.Minutely e = clash e
-    alike Frequency.Secondly e = clash e
+    alike Frequency.Hourly e = absurd (true≢false e)
+    alike Frequency.Minutely e = absurd (true≢false e)
+    alike Frequency.Secondly e = absurd (true≢false e)
 
 -- a move leads to a period in range
 bounded_ranged : (r : Rule) (v : Move) (k' : ℕ) → bounded r v ≡ To k' → in_range r k' ≡ true
@@ -178,10 +172,10 @@ stays_held w buffer' = go w.why
 -- the test of a running cursor says what it says in words
 poised_is : (g : Given ℕ) (c : Cursor) → poised g c ≡ true → Poised g c
 poised_is g c e =
-    let a = both_true (leb 1 g.interval) _ e in
-    let b = both_true (g.in_range c.k) _ a.1 in
-    let d = both_true (leb c.place (length (g.kept c.k))) _ b.1 in
-    let f = both_true (below g.count c.number) _ d.1 in
+    let a = and_parts (leb 1 g.interval) _ e in
+    let b = and_parts (g.in_range c.k) _ a.1 in
+    let d = and_parts (leb c.place (length (g.kept c.k))) _ b.1 in
+    let f = and_parts (below g.count c.number) _ d.1 in
     record {
       interval = leb-true _ _ a.0;
       in_range = b.0;
@@ -262,7 +256,7 @@ module _ (r : Rule) (plan : Plan) (p : plan ≡ plan_of r) where
   -- the year that is opened for them
   module _ (h : yielded r ≡ true) (k : ℕ) (inside : in_range r k ≡ true) (span : Days) (s : span ≡ span_of r k) (info : IterInfo)
       (n : ℕ) (e : n ≡ year_at span.from)
-      (made : info ≡ info_of plan.shape.asked plan.shape.inyear plan.shape.wkst r.byweekno r.byday n) where
+      (made : info ≡ info_of plan.shape.asked plan.shape.inyear r.wkst r.byweekno r.byday n) where
     day_is : day_in span.from ≡ (span_of r k).from
     day_is =
         let low : (span_of r k).from < 4194304 = omega (arith, span_from_high r (good r h) k inside) in
@@ -272,7 +266,7 @@ module _ (r : Rule) (plan : Plan) (p : plan ≡ plan_of r) where
     unfolding rule_info year_at shape_of
     info_made =
         made
-        ∙ ap (λ (x : Shape). info_of x.asked x.inyear x.wkst r.byweekno r.byday n) shape_is
+        ∙ ap (λ (x : Shape). info_of x.asked x.inyear r.wkst r.byweekno r.byday n) shape_is
         ∙ ap (rule_info r) (e ∙ ap year_of day_is)
 
     pub info_covers : is_in_year info.year span.from ≡ true
@@ -295,10 +289,9 @@ pub record Turn : Type 0 where
   pub counter : Counter
   pub held : Held
   pub tried : Bool
-  pub days : List ℕ
-  pub places : List ℕ
+  pub opened : OpenPeriod
   pub info : IterInfo
-  pub a : At r m c b₀ buffer counter held tried days places info
+  pub a : At r m c b₀ buffer counter held tried opened info
   pub span : Days
   pub s : span ≡ days_in plan.shape.freq counter.number
   pub covered : is_in_year info.year span.from ≡ true
@@ -309,24 +302,22 @@ days_of t = days_by t.plan.shape t.info (rule_lists t.r) t.span
 
 -- what opening the period tells
 pub record Opens (t : Turn) : Type 0 where
-  pub period : Period
-  pub days : List ℕ
-  pub places : List ℕ
-  pub period_told : period
+  pub opened : OpenPeriod
+  pub period_told : opened.period
       ≡ period_by t.plan.shape t.info.year.first (length (days_of t)) t.counter.tick t.plan.clock t.r.bysetpos
-  pub days_told : days ≡ sets t.days 0 (days_of t)
-  pub places_told : places
-      ≡ chosen_by t.plan.shape t.info.year.first (length (days_of t)) t.counter.tick t.plan.clock t.r.bysetpos t.places
+  pub days_told : opened.days ≡ sets t.opened.days 0 (days_of t)
+  pub places_told : opened.places
+      ≡ chosen_by t.plan.shape t.info.year.first (length (days_of t)) t.counter.tick t.plan.clock t.r.bysetpos t.opened.places
 
 -- the test of the cursor there
 abbrev pub fits : (t : Turn) → Opens t → Bool
-fits t o = is_fit t.plan.shape t.span t.counter.tick t.plan.bounds o.period t.c o.days t.plan.lists o.places
+fits t o = is_fit t.plan.shape t.span t.counter.tick t.plan.bounds o.opened.period t.c o.opened.days t.plan.lists o.opened.places
 
 -- what a walk tells
 abbrev pub to_walk : (t : Turn) → Opens t → List ℕ
 to_walk t o =
-    tabled (second_kept t.plan.shape.positioned o.period.frame o.days t.plan.lists o.places) t.held.cursor.place
-    (o.period.kept - t.held.cursor.place)
+    tabled (second_kept t.plan.shape.positioned o.opened.period.frame o.opened.days t.plan.lists o.opened.places) t.held.cursor.place
+    (o.opened.period.kept - t.held.cursor.place)
 
 pub record Walks (t : Turn) (o : Opens t) : Type 0 where
   pub going : Going t.r t.m t.c t.b₀ t.buffer t.counter.k t.held
@@ -358,8 +349,8 @@ module _ (t : Turn) where
       let high = (covers_is r y (span_of r k).from low covered_is).high in
       ap (λ (x : IterInfo). x.year.first) t.a.year ∙ ap (λ (x : Year). x.first) (info_year r y high)
 
-  here : Opened r k y t.days t.places
-  here = opened r t.h k t.a.ranged y covered_is t.days t.places t.a.days_room t.a.places_room
+  here : Opened r k y t.opened.days t.opened.places
+  here = opened r t.h k t.a.ranged y covered_is t.opened.days t.opened.places t.a.days_room t.a.places_room
 
   tick_is : t.counter.tick ≡ (counter_at r k).tick
   tick_is = ap (λ (x : Counter). x.tick) t.a.counted
@@ -376,23 +367,23 @@ module _ (t : Turn) where
 
   -- the period that is opened is the rule's own
   module _ (o : Opens t) where
-    period_is : o.period ≡ period_in r k y
+    period_is : o.opened.period ≡ period_in r k y
     period_is =
         o.period_told
         ∙ same_period _ _ _ _ _ _ _ _ _ _ r.bysetpos (shape_is r t.plan t.p) first_is count_is tick_is (clock_is r t.plan t.p)
 
-    days_are : o.days ≡ days_over r k y t.days
-    days_are = o.days_told ∙ ap (sets t.days 0) set_is
+    days_are : o.opened.days ≡ days_over r k y t.opened.days
+    days_are = o.days_told ∙ ap (sets t.opened.days 0) set_is
 
-    places_are : o.places ≡ places_over r k y t.places
+    places_are : o.opened.places ≡ places_over r k y t.opened.places
     places_are =
         o.places_told
-        ∙ same_places _ _ _ _ _ _ _ _ _ _ r.bysetpos t.places (shape_is r t.plan t.p) first_is count_is tick_is (clock_is r t.plan t.p)
+        ∙ same_places _ _ _ _ _ _ _ _ _ _ r.bysetpos t.opened.places (shape_is r t.plan t.p) first_is count_is tick_is (clock_is r t.plan t.p)
 
     -- what a walk asks
-    pub sound : Sound t.plan.shape.positioned o.period t.plan.lists
+    pub sound : Sound t.plan.shape.positioned o.opened.period t.plan.lists
     sound =
-        subst (λ (b : Bool). Sound b o.period t.plan.lists) (sym (positioned_is r t.plan t.p))
+        subst (λ (b : Bool). Sound b o.opened.period t.plan.lists) (sym (positioned_is r t.plan t.p))
         (subst (λ (x : Period). Sound (is_positioned r) x t.plan.lists) (sym period_is)
         (subst (λ (l : List ℕ). Sound (is_positioned r) (period_in r k y) l) (sym (lists_are r t.plan t.p)) here.sound))
 
@@ -429,7 +420,7 @@ module _ (t : Turn) where
       refused_right v u e = by_tried t.tried refl taken
         where
           by_tried : (q : Bool) → t.tried ≡ q → b ≡ (q || fits t o) → beside v t.buffer ≡ run_of r t.c t.b₀ t.m
-          by_tried true q x = clash (sym x ∙ e)
+          by_tried true q x = absurd (true≢false (sym x ∙ e))
           by_tried false q x =
               let f = t.a.fresh q in
               ap (λ (l : List ℕ). beside v l) f.1
@@ -461,7 +452,7 @@ module _ (t : Turn) where
 
       -- the candidates that remain are walked over
       abbrev f : ℕ → ℕ
-      f = second_kept (is_positioned r) (period_in r k y).frame (days_over r k y t.days) (sets_in r).lists (places_over r k y t.places)
+      f = second_kept (is_positioned r) (period_in r k y).frame (days_over r k y t.opened.days) (sets_in r).lists (places_over r k y t.opened.places)
 
       from_zero : tabled f t.held.cursor.place ((period_in r k y).kept - t.held.cursor.place)
           ≡ drop t.held.cursor.place (tabled f 0 (period_in r k y).kept)
@@ -510,16 +501,16 @@ module _ (t : Turn) where
       whole x l e = runs_on r t.c t.b₀ t.m x t.h t.running v.going.formed l e
 
       -- the walk stops the run
-      pub stops_right : (x : Answer) → Settled.Stops x ≡ settled v.w (length v.buffer) t.m → beside x v.buffer ≡ run_of r t.c t.b₀ t.m
+      pub stops_right : (x : Answer) → Some x ≡ settled v.w (length v.buffer) t.m → beside x v.buffer ≡ run_of r t.c t.b₀ t.m
       stops_right x q =
           whole x v.buffer (sym (ap answered v.going.run
           ∙ settle_stops (periods r) s left t.m held' v.buffer budget v.w.why walk_is x (sym q)))
 
       -- the move
-      move_is : incremented t.plan.shape.freq t.plan.interval t.counter (ltb 0 o.period.frame.days) t.plan.clock
+      move_is : incremented t.plan.shape.freq t.plan.interval t.counter (ltb 0 o.opened.period.frame.days) t.plan.clock
           ≡ reached_by r (move r k)
       move_is =
-          same_move _ _ _ _ _ _ (ltb 0 o.period.frame.days) _ _ (freq_is r t.plan t.p) (interval_is r t.plan t.p) t.a.counted
+          same_move _ _ _ _ _ _ (ltb 0 o.opened.period.frame.days) _ _ (freq_is r t.plan t.p) (interval_is r t.plan t.p) t.a.counted
           (clock_is r t.plan t.p)
           ∙ ap (λ (x : Period). incremented r.freq r.interval (counter_at r k) (ltb 0 x.frame.days) (clock_in r)) period_is
           ∙ by_day (fine r) refl
@@ -530,7 +521,7 @@ module _ (t : Turn) where
           by_day true e = ap (λ (x : Bool). incremented r.freq r.interval (counter_at r k) x (clock_in r)) (sym (here.day_passes_lem e))
           by_day false e = coarse_alike r.freq r.interval (counter_at r k) (clock_in r) e _ _
 
-      module _ (q : Settled.Moves ≡ settled v.w (length v.buffer) t.m) where
+      module _ (q : None ≡ settled v.w (length v.buffer) t.m) where
         onward : Onward v.w (length v.buffer) t.m
         onward = settle_moves v.w.why held' (length v.buffer) t.m (sym q)
 
@@ -551,33 +542,31 @@ module _ (t : Turn) where
         pub moves_left : t.held.moves < t.m
         moves_left = omega (arith, spare, stays.made_same)
 
-        module _ (reached : Reached)
-            (told : reached ≡ incremented t.plan.shape.freq t.plan.interval t.counter (ltb 0 o.period.frame.days) t.plan.clock) where
+        module _ (reached : Result Counter Cause)
+            (told : reached ≡ incremented t.plan.shape.freq t.plan.interval t.counter (ltb 0 o.opened.period.frame.days) t.plan.clock) where
           -- the move ends the run
-          pub no_tick_right : (x : Answer) → reached ≡ Reached.NoTick → x ≡ answer_of Stop.Ended (State.Ended Cause.NoTick) held'
+          pub ends_right : (cause : Cause) (x : Answer) → reached ≡ Err cause → x ≡ answer_of Stop.Ended (State.Ended cause) held'
               → beside x v.buffer ≡ run_of r t.c t.b₀ t.m
-          no_tick_right x n u =
-              whole x v.buffer (ap (λ (z : Answer). beside z v.buffer) u ∙ sym (ap answered v.going.run
-              ∙ then_no_tick (periods r) s left t.m v.w v.buffer budget within walk_is onward
-              (moving NoTick (reached_no_tick r (move r k) (sym move_is ∙ sym told ∙ n)))))
+          ends_right cause x n u = whole x v.buffer (ap (λ (z : Answer). beside z v.buffer) u ∙ sym (ap answered v.going.run
+              ∙ by_cause (reached_cause r (move r k) cause (sym move_is ∙ sym told ∙ n))))
+            where
+              Ends : Cause → Type 0
+              Ends d = answered (compute.runs (periods r) left s) ≡ beside (answer_of Stop.Ended (State.Ended d) held') v.buffer
 
-          pub range_right : (x : Answer) → reached ≡ Reached.Range → x ≡ answer_of Stop.Ended (State.Ended Cause.Range) held'
-              → beside x v.buffer ≡ run_of r t.c t.b₀ t.m
-          range_right x n u =
-              whole x v.buffer (ap (λ (z : Answer). beside z v.buffer) u ∙ sym (ap answered v.going.run
-              ∙ then_range (periods r) s left t.m v.w v.buffer budget within walk_is onward
-              (moving Range (reached_range r (move r k) (sym move_is ∙ sym told ∙ n)))))
+              by_cause : ((cause ≡ Cause.NoTick) × (move r k ≡ NoTick)) ⊎ ((cause ≡ Cause.Range) × (move r k ≡ Range)) → Ends cause
+              by_cause (inl e) = subst Ends (sym e.0) (then_no_tick (periods r) s left t.m v.w v.buffer budget within walk_is onward (moving NoTick e.1))
+              by_cause (inr e) = subst Ends (sym e.0) (then_range (periods r) s left t.m v.w v.buffer budget within walk_is onward (moving Range e.1))
 
           -- or it leads on
-          module _ (next : Counter) (to : reached ≡ Reached.To next) (later : Held) (moved : later ≡ moved_to next.k held') where
+          module _ (next : Counter) (to : reached ≡ Ok next) (later : Held) (moved : later ≡ moved_to next.k held') where
             pub moves_one : later.moves ≡ t.held.moves + 1
             moves_one = ap (λ (x : Held). x.moves) moved ∙ omega (arith, spare, stays.made_same, t.a.m_fits)
 
-            pub leads_on : At r t.m t.c t.b₀ v.buffer next later true o.days o.places t.info
+            pub leads_on : At r t.m t.c t.b₀ v.buffer next later true o.opened t.info
             leads_on =
                 let x = reached_to r (move r k) next (sym move_is ∙ sym told ∙ to) in
                 let j = moving (To next.k) x.0 in
-                subst (λ (z : Held). At r t.m t.c t.b₀ v.buffer next z true o.days o.places t.info) (sym moved) (record {
+                subst (λ (z : Held). At r t.m t.c t.b₀ v.buffer next z true o.opened t.info) (sym moved) (record {
                   counted = x.1;
                   ranged = move_ranged r k next.k x.0;
                   k_is = refl;
@@ -587,7 +576,7 @@ module _ (t : Turn) where
                   places_room = ap (λ (l : List ℕ). length l) places_are ∙ here.places_length;
                   room = room_is;
                   m_fits = t.a.m_fits;
-                  fresh = λ e. clash e;
+                  fresh = λ e. absurd (true≢false e);
                   going = λ e. record {
                     formed = v.going.formed;
                     place = omega arith;
@@ -600,10 +589,10 @@ module _ (t : Turn) where
                 })
 
 -- ---- before the first turn, and where the year changes
-pub begins_at : (r : Rule) (m : ℕ) (c : Cursor) (held : Held) (b₀ : List ℕ) (first : Counter) (days places : List ℕ) (info : IterInfo) (y : ℕ)
-    → in_range r c.k ≡ true → held ≡ held_of c → first ≡ counter_at r c.k → length days ≡ 373 → length places ≡ 732 → info ≡ rule_info r y → m < 2 ^ 32
-    → At r m c b₀ b₀ first held false days places info
-begins_at r m c held b₀ first days places info y inside e f d l i z =
+pub begins_at : (r : Rule) (m : ℕ) (c : Cursor) (held : Held) (b₀ : List ℕ) (first : Counter) (opened : OpenPeriod) (info : IterInfo) (y : ℕ)
+    → in_range r c.k ≡ true → held ≡ held_of c → first ≡ counter_at r c.k → length opened.days ≡ 373 → length opened.places ≡ 732 → info ≡ rule_info r y → m < 2 ^ 32
+    → At r m c b₀ b₀ first held false opened info
+begins_at r m c held b₀ first slots info y inside e f d l i z =
     let k : first.k ≡ c.k = ap (λ (x : Counter). x.k) f ∙ k_is r c.k in
     record {
       counted = f ∙ ap (counter_at r) (sym k);
@@ -616,13 +605,13 @@ begins_at r m c held b₀ first days places info y inside e f d l i z =
       room = refl;
       m_fits = z;
       fresh = λ q. (e, refl);
-      going = λ q. clash (sym q);
+      going = λ q. absurd (true≢false (sym q));
     }
 
-pub rebuilt : (r : Rule) (m : ℕ) (c : Cursor) (b₀ buffer : List ℕ) (counter : Counter) (held : Held) (tried : Bool) (days places : List ℕ)
+pub rebuilt : (r : Rule) (m : ℕ) (c : Cursor) (b₀ buffer : List ℕ) (counter : Counter) (held : Held) (tried : Bool) (opened : OpenPeriod)
     (info info' : IterInfo) (y : ℕ)
-    → At r m c b₀ buffer counter held tried days places info → info' ≡ rule_info r y → At r m c b₀ buffer counter held tried days places info'
-rebuilt r m c b₀ buffer counter held tried days places info info' y a e = record {
+    → At r m c b₀ buffer counter held tried opened info → info' ≡ rule_info r y → At r m c b₀ buffer counter held tried opened info'
+rebuilt r m c b₀ buffer counter held tried slots info info' y a e = record {
   counted = a.counted;
   ranged = a.ranged;
   k_is = a.k_is;

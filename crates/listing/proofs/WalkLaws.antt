@@ -1,5 +1,6 @@
 -- What a walk leaves as it was, and what follows it.
 -- Assumes nothing.
+use Rattle.std.specs.Prelude.{Some, None}
 use Prim.Native.Nat.{ℕ, zero, suc, ◌+◌, ◌-◌, ◌*◌, ◌^◌, min, ◌≤◌, ◌<◌}
 use mathlib.Core.Path.{◌≡◌, refl, sym, ap, ◌∙◌, subst}
 use mathlib.Core.Bool.{Bool, true, false, ◌||◌}
@@ -29,13 +30,12 @@ use Rattle.walks.specs.declared.rrule_iter.Frame.{Frame}
 use Rattle.walks.specs.Walks.{given_by, now_of, walked_by, tabled, second_at, walk_from, Framed, Timely}
 use Rattle.crossing.specs.Crossing.{days_walk}
 use Rattle.chosen.specs.Chosen.{places_walk}
-use Rattle.rule.proofs.GivenLaws.{neither}
+use Rattle.std.proofs.lemmas.Bool.{cases_Bool, or_parts}
 use Rattle.passing.specs.Passing.{Ready, passed_days}
 use Rattle.passing.proofs.Passing.{passed_holds, passed_walks}
 use Rattle.crossing.proofs.Walkable.{is_walkable_lem, days_walked}
 use Rattle.chosen.proofs.Walkable.{places_walked}
 use Rattle.opening.specs.Opening.{second_kept}
-use Rattle.settling.specs.declared.rrule_iter.Settled.{Settled}
 use Rattle.settling.specs.Settling.{answer_of, moved_to, settled_through, settled}
 
 -- where a walk leaves off
@@ -51,10 +51,6 @@ pub record Stays {A : Type 0} (k number made handed : ℕ) (buffer : List A) (t 
   pub handed_low : handed ≤ t.handed
   pub handed_high : t.handed ≤ length buffer
   pub number_is : t.cursor.number + handed ≡ number + t.handed
-
-split : (b : Bool) → (b ≡ true) ⊎ (b ≡ false)
-split true = inl refl
-split false = inr refl
 
 module _ {A : Type 0} (g : Given A) where
   here : (state : State) (k place number made handed : ℕ) (buffer : List A) → handed ≤ length buffer
@@ -110,7 +106,7 @@ module _ {A : Type 0} (g : Given A) where
       at_start : Rest → (handed ≡ length buffer → ⊥) → above g.until x ≡ false → Dec (x < g.start)
           → Goal (compute.walk g (x ∷ xs) (running k place number made handed buffer))
       at_start rest f u (yes b) = rw (walk_pass g x xs k place number made handed buffer f u b) (rest (place + 1) number handed buffer h)
-      at_start rest f u (no b) = handing rest f u (omega arith) (split (reaches g.count (number + 1)))
+      at_start rest f u (no b) = handing rest f u (omega arith) (cases_Bool (reaches g.count (number + 1)))
 
       at_until : Rest → (handed ≡ length buffer → ⊥) → (above g.until x ≡ true) ⊎ (above g.until x ≡ false)
           → Goal (compute.walk g (x ∷ xs) (running k place number made handed buffer))
@@ -120,14 +116,14 @@ module _ {A : Type 0} (g : Given A) where
 
       at_full : Rest → Dec (handed ≡ length buffer) → Goal (compute.walk g (x ∷ xs) (running k place number made handed buffer))
       at_full rest (yes f) = rw (walk_full g x xs k place number made handed buffer f) (here State.Running k place number made handed buffer h)
-      at_full rest (no f) = at_until rest f (split (above g.until x))
+      at_full rest (no f) = at_until rest f (cases_Bool (above g.until x))
 
 -- ---- what follows a walk
 
-clash : (a : Answer) → Settled.Moves ≡ Settled.Stops a → ⊥
+clash : (a : Answer) → None ≡ Some a → ⊥
 clash a e = let z : ◌≡◌ {A = ℕ} 0 1 = cc in omega arith
 
-one_stop : (a b : Answer) → Settled.Stops a ≡ Settled.Stops b → a ≡ b
+one_stop : (a b : Answer) → Some a ≡ Some b → a ≡ b
 one_stop a b e = cc
 
 module _ (g : Given ℕ) (s : Now ℕ) (left m : ℕ) (h : Held) (buffer : List ℕ) (budget : left ≡ m - h.moves) where
@@ -136,7 +132,7 @@ module _ (g : Given ℕ) (s : Now ℕ) (left m : ℕ) (h : Held) (buffer : List 
   stopped_is stop state e = ap answered (runs_stopped g left s _ e)
 
   through_is : compute.walk g (remaining g s.cursor) s ≡ compute.through (now_of State.Running h buffer)
-      → (full spent : Bool) → eqb h.handed (length buffer) ≡ full → eqb h.moves m ≡ spent → (a : Answer) → settled_through full spent h ≡ Settled.Stops a
+      → (full spent : Bool) → eqb h.handed (length buffer) ≡ full → eqb h.moves m ≡ spent → (a : Answer) → settled_through full spent h ≡ Some a
       → answered (compute.runs g left s) ≡ beside a buffer
   through_is e true spent f p a q =
       ap answered (runs_more g s h.cursor.k h.cursor.place h.cursor.number h.moves h.handed buffer e (eqb-true _ _ f) left)
@@ -149,7 +145,7 @@ module _ (g : Given ℕ) (s : Now ℕ) (left m : ℕ) (h : Held) (buffer : List 
   through_is e false false f p a q = absurd (clash a q)
 
   pub settle_stops : (why : Why) → compute.walk g (remaining g s.cursor) s ≡ walked_by (record { why = why; held = h }) buffer
-      → (a : Answer) → settled (record { why = why; held = h }) (length buffer) m ≡ Settled.Stops a
+      → (a : Answer) → settled (record { why = why; held = h }) (length buffer) m ≡ Some a
       → answered (compute.runs g left s) ≡ beside a buffer
   unfolding settled walked_by
   settle_stops Why.Full e a q = stopped_is Stop.More State.Running e ∙ ap (λ (x : Answer). beside x buffer) (one_stop _ _ q)
@@ -163,7 +159,7 @@ pub record Onward (w : Walked) (room m : ℕ) : Type 0 where
   pub free : w.held.handed ≡ room → ⊥
   pub unspent : w.held.moves ≡ m → ⊥
 
-pub settle_moves : (why : Why) (h : Held) (room m : ℕ) → settled (record { why = why; held = h }) room m ≡ Settled.Moves
+pub settle_moves : (why : Why) (h : Held) (room m : ℕ) → settled (record { why = why; held = h }) room m ≡ None
     → Onward (record { why = why; held = h }) room m
 unfolding settled
 settle_moves Why.Full h room m e = absurd (clash _ (sym e))
@@ -171,7 +167,7 @@ settle_moves Why.Until h room m e = absurd (clash _ (sym e))
 settle_moves Why.Count h room m e = absurd (clash _ (sym e))
 settle_moves Why.Through h room m e = go (eqb h.handed room) (eqb h.moves m) refl refl e
   where
-    go : (full spent : Bool) → eqb h.handed room ≡ full → eqb h.moves m ≡ spent → settled_through full spent h ≡ Settled.Moves
+    go : (full spent : Bool) → eqb h.handed room ≡ full → eqb h.moves m ≡ spent → settled_through full spent h ≡ None
         → Onward (record { why = Why.Through; held = h }) room m
     go true spent f p e = absurd (clash _ (sym e))
     go false true f p e = absurd (clash _ (sym e))
@@ -257,7 +253,7 @@ passed_same f b h days lists buffer r v z y e =
     days_walked f b r buffer days lists (is_walkable_lem f b r buffer v (ready_passed _ f b h days buffer r e y))
     ∙ ap (λ (x : Held). walk_from b (second_at f days lists) (f.days * f.times) x buffer) e
     ∙ sym (passed_walks (ltb 0 h.cursor.number || eqb h.handed (length buffer)) f b h days lists buffer
-    (λ q. eqb-false _ _ (neither (ltb 0 h.cursor.number) (eqb h.handed (length buffer)) q).1) z)
+    (λ q. eqb-false _ _ (or_parts (ltb 0 h.cursor.number) (eqb h.handed (length buffer)) q).1) z)
     ∙ sym (days_walked f b h buffer days lists (is_walkable_lem f b h buffer v y))
 
 -- where nothing is kept there is nothing to walk over

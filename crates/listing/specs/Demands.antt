@@ -10,7 +10,6 @@ use Rattle.machine.specs.declared.Answer.{Answer}
 use Rattle.machine.specs.Rising.{◌∈◌}
 use Rattle.machine.specs.Cursors.{WellFormed}
 use Rattle.machine.specs.Calls.{beside}
-use Rattle.rule.specs.Refusals.{Verdict}
 use Rattle.rule.specs.declared.rrule.Rule.{Rule}
 use Rattle.rule.specs.Raw.{Raw}
 use Rattle.rule.specs.Filling.{checked}
@@ -86,14 +85,12 @@ pub record Listing (r : Rule) (xs : List Made) : Type 0 where
 
 abbrev pub DemandThree : Type 0
 DemandThree =
-    (w : Raw) → (checked w).verdict ≡ Ok tt → (xs : List Made)
-    → Chain (checked w).rule (fresh_of (checked w).rule) xs → Listing (checked w).rule xs
+    (w : Raw) (r : Rule) → checked w ≡ Ok r → (xs : List Made) → Chain r (fresh_of r) xs → Listing r xs
 
 -- as it was said before request 2026-01, when the check took INTERVAL 0
 abbrev pub DemandThreeBefore : Type 0
 DemandThreeBefore =
-    (w : Raw) → (checked w).verdict ≡ Ok tt → 1 ≤ w.interval → (xs : List Made)
-    → Chain (checked w).rule (fresh_of (checked w).rule) xs → Listing (checked w).rule xs
+    (w : Raw) (r : Rule) → checked w ≡ Ok r → 1 ≤ w.interval → (xs : List Made) → Chain r (fresh_of r) xs → Listing r xs
 
 -- No calls from the fresh cursor of a good record are ended by Interval.
 abbrev pub NeverByInterval : Type 0

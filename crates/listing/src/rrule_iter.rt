@@ -12,153 +12,84 @@ ghost use Rattle.fitting.specs.Fitting.{is_fit};
 use crate::walking::walk_period;
 use basics::faults::refused;
 use fitting::cursors::is_fit;
-use machine::{Answer, Cause, Cursor, Fault, State, Stop};
+use machine::{Answer, Cursor, Fault, State, Stop};
 use moves::counter_date::increment;
-use opening::period::{Period, open_period};
-use periods::counter_date::{Counter, Reached, counter_at};
-use plans::plan::{Plan, Shape, plan_of};
+use opening::period::{OpenPeriod, none_open, open_period};
+use periods::counter_date::{Counter, counter_at};
+use plans::plan::{Plan, plan_of};
 use records::is_record;
 use rule::rrule::Rule;
-use settling::rrule_iter::{Settled, answer, ended, held_at, moved_to, settle};
+use settling::rrule_iter::{answer, ended, held_at, moved_to, settle};
 use stretches::counter_date::{Days, days_of};
 use units::year::{covers, year_at};
-use walks::rrule_iter::Bounds;
 use years::iterinfo::rebuild;
 
-// Whether a cursor was tried before, or fits the period that is opened.
+// Whether a cursor was tried before, or fits the period that is open.
 fn is_taken(
     tried: bool,
-    shape: Shape,
+    plan: &Plan,
     span: Days,
     tick: u64,
-    bounds: Bounds,
-    period: Period,
+    opened: &OpenPeriod,
     cursor: Cursor,
-    days: &[u16; 373],
-    lists: &[u8; 144],
-    places: &[u32; 732],
 ) -> bool
-    ensures { result ≡ tried || is_fit shape span tick bounds period cursor days.now lists.now places.now }
+    ensures { result ≡ tried || is_fit plan.now.shape span tick plan.now.bounds opened.now.period cursor
+        opened.now.days plan.now.lists opened.now.places }
 {
-    if tried {
-        return true;
-    }
-    is_fit(
-        shape, span, tick, bounds, period, cursor, days, lists, places,
-    )
+    tried || is_fit(plan, span, tick, opened, cursor)
 }
 
 // The run of a good record from a running cursor whose period begins in range. The cursor is tried when its period is opened, at the first turn.
 fn run_on(
-    rule: Rule,
-    plan: Plan,
+    rule: &Rule,
+    plan: &Plan,
     begun: Counter,
     cursor: Cursor,
     buffer: &mut [u64],
     m: u32,
 ) -> Answer
-    requires { (yielded rule ≡ true) × (plan ≡ plan_of rule) × (begun ≡ counter_at rule cursor.k) × (in_range rule cursor.k ≡ true)
-        × (cursor.state ≡ State.Running) × (1 ≤ rule.interval) }
-    ensures { beside result buffer.new ≡ run_of rule cursor buffer.old m }
+    requires { (yielded rule.now ≡ true) × (plan.now ≡ plan_of rule.now) × (begun ≡ counter_at rule.now cursor.k)
+        × (in_range rule.now cursor.k ≡ true) × (cursor.state ≡ State.Running) × (1 ≤ rule.now.interval) }
+    ensures { beside result buffer.new ≡ run_of rule.now cursor buffer.old m }
 {
     let shape = plan.shape;
     let freq = shape.freq;
     let mut counter = begun;
     let mut held = held_at(cursor);
     let mut tried = false;
-    let mut days = [0; 373];
-    let mut places = [0; 732];
+    let mut opened = none_open(shape);
     let first = days_of(freq, counter.number);
-    let mut info = rebuild(
-        shape.asked,
-        shape.inyear,
-        shape.wkst,
-        year_at(first.from),
-        &rule.byweekno,
-        &rule.byday,
-    );
+    let mut info = rebuild(shape.asked, shape.inyear, year_at(first.from), rule);
     loop {
         let span = days_of(freq, counter.number);
         if !covers(info.year, span.from) {
-            info = rebuild(
-                shape.asked,
-                shape.inyear,
-                shape.wkst,
-                year_at(span.from),
-                &rule.byweekno,
-                &rule.byday,
-            );
+            info = rebuild(shape.asked, shape.inyear, year_at(span.from), rule);
             continue;
         }
-        let period = open_period(
-            shape,
-            info.year,
-            span,
-            counter.tick,
-            &rule.bymonth,
-            &rule.bymonthday,
-            &rule.byyearday,
-            &rule.byday,
-            &rule.bysetpos,
-            &info.months,
-            &info.monthdays,
-            &info.fromends,
-            &info.weeks,
-            &info.nths,
-            &plan.clock,
-            &mut days,
-            &mut places,
-        );
-        if !is_taken(
-            tried,
-            shape,
-            span,
-            counter.tick,
-            plan.bounds,
-            period,
-            cursor,
-            &days,
-            &plan.lists,
-            &places,
-        ) {
+        open_period(plan, span, counter.tick, rule, &info, &mut opened);
+        if !is_taken(tried, plan, span, counter.tick, &opened, cursor) {
             return refused(Fault::Cursor, cursor);
         }
         tried = true;
-        let walked = walk_period(
-            shape.positioned,
-            period,
-            plan.bounds,
-            held,
-            &days,
-            &plan.lists,
-            &places,
-            buffer,
-        );
+        let walked = walk_period(plan, &opened, held, buffer);
         held = walked.held;
-        match settle(walked, buffer.len(), m) {
-            Settled::Stops(answer) => return answer,
-            Settled::Moves => {}
+        if let Some(answer) = settle(walked, buffer.len(), m) {
+            return answer;
         }
-        match increment(
-            freq,
-            plan.interval,
-            counter,
-            0 < period.frame.days,
-            &plan.clock,
-        ) {
-            Reached::To(next) => {
+        let passes = 0 < opened.period.frame.days;
+        match increment(freq, plan.interval, counter, passes, &plan.clock) {
+            Ok(next) => {
                 counter = next;
                 held = moved_to(next.k, held);
             }
-            Reached::NoTick => return ended(Cause::NoTick, held),
-            Reached::Range => return ended(Cause::Range, held),
+            Err(cause) => return ended(cause, held),
         }
     }
 }
 
 // The run of a record, from a cursor, with a buffer and a budget of moves.
-pub fn run(rule: Rule, cursor: Cursor, buffer: &mut [u64], m: u32) -> Answer
-    ensures { beside result buffer.new ≡ run_of rule cursor buffer.old m }
+pub fn run(rule: &Rule, cursor: Cursor, buffer: &mut [u64], m: u32) -> Answer
+    ensures { beside result buffer.new ≡ run_of rule.now cursor buffer.old m }
 {
     if !is_record(rule) {
         return refused(Fault::Record, cursor);
@@ -168,10 +99,8 @@ pub fn run(rule: Rule, cursor: Cursor, buffer: &mut [u64], m: u32) -> Answer
         State::Ended(_) => return answer(Stop::Ended, state, held_at(cursor)),
         State::Running => {}
     }
-    let freq = rule.freq;
-    match counter_at(freq, rule.interval, rule.wkst, rule.start, cursor.k) {
-        Reached::To(counter) => run_on(rule, plan_of(&rule), counter, cursor, buffer, m),
-        Reached::NoTick => refused(Fault::Cursor, cursor),
-        Reached::Range => refused(Fault::Cursor, cursor),
+    match counter_at(rule.freq, rule.interval, rule.wkst, rule.start, cursor.k) {
+        Ok(counter) => run_on(rule, &plan_of(rule), counter, cursor, buffer, m),
+        Err(_) => refused(Fault::Cursor, cursor),
     }
 }

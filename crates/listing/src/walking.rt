@@ -1,4 +1,4 @@
-// The walk over a period that is opened.
+// The walk over a period that is open.
 ghost use Rattle.std.specs.Prelude.{◌≡◌, ◌-◌};
 ghost use Rattle.machine.specs.declared.State.{State};
 ghost use Rattle.machine.specs.Compute.{walk};
@@ -10,59 +10,50 @@ ghost use Rattle.opened.specs.Opened.{Sound};
 
 use chosen::rrule_iter::walk_places;
 use crossing::rrule_iter::walk_days;
-use opening::period::Period;
+use opening::period::OpenPeriod;
 use passing::rrule_iter::pass_days;
-use walks::rrule_iter::{Bounds, Frame, Held, Walked, Why};
+use plans::plan::Plan;
+use walks::rrule_iter::{Held, Walked, Why};
 
 // The walk over all candidates, from the place on: over days and times, whole days before the start at one go.
-fn walk_all(
-    frame: Frame,
-    bounds: Bounds,
-    held: Held,
-    days: &[u16; 373],
-    lists: &[u8; 144],
-    buffer: &mut [u64],
-) -> Walked
-    requires { Framed frame × Timely frame lists.now × Ready bounds held buffer.old }
-    ensures { walked_by result buffer.new ≡ days_walk frame bounds held days.now lists.now buffer.old }
+fn walk_all(plan: &Plan, opened: &OpenPeriod, held: Held, buffer: &mut [u64]) -> Walked
+    requires { Framed opened.now.period.frame × Timely opened.now.period.frame plan.now.lists × Ready plan.now.bounds held buffer.old }
+    ensures { walked_by result buffer.new
+        ≡ days_walk opened.now.period.frame plan.now.bounds held opened.now.days plan.now.lists buffer.old }
 {
+    let frame = opened.period.frame;
     // nothing is before the start where something was handed out already
     let none = (0 < held.cursor.number) | (held.handed == buffer.len());
-    let passed = pass_days(none, frame, bounds, held, days);
-    walk_days(frame, bounds, passed, days, lists, buffer)
+    let passed = pass_days(none, frame, plan.bounds, held, &opened.days);
+    walk_days(frame, plan.bounds, passed, &opened.days, &plan.lists, buffer)
 }
 
 // The walk over a period's kept candidates, from the place on.
-pub(crate) fn walk_period(
-    positioned: bool,
-    period: Period,
-    bounds: Bounds,
-    held: Held,
-    days: &[u16; 373],
-    lists: &[u8; 144],
-    places: &[u32; 732],
-    buffer: &mut [u64],
-) -> Walked
-    requires { Sound positioned period lists.now × Ready bounds held buffer.old }
+pub(crate) fn walk_period(plan: &Plan, opened: &OpenPeriod, held: Held, buffer: &mut [u64]) -> Walked
+    requires { Sound plan.now.shape.positioned opened.now.period plan.now.lists × Ready plan.now.bounds held buffer.old }
     ensures { walked_by result buffer.new
-        ≡ walk (given_by bounds) (tabled (second_kept positioned period.frame days.now lists.now places.now)
-        held.cursor.place (period.kept - held.cursor.place)) (now_of State.Running held buffer.old) }
+        ≡ walk (given_by plan.now.bounds)
+        (tabled (second_kept plan.now.shape.positioned opened.now.period.frame opened.now.days plan.now.lists opened.now.places)
+        held.cursor.place (opened.now.period.kept - held.cursor.place)) (now_of State.Running held buffer.old) }
 {
+    let period = opened.period;
     if period.kept == 0 {
-        let why = Why::Through;
-        return Walked { why, held };
+        return Walked {
+            why: Why::Through,
+            held,
+        };
     }
-    if !positioned {
-        return walk_all(period.frame, bounds, held, days, lists, buffer);
+    if !plan.shape.positioned {
+        return walk_all(plan, opened, held, buffer);
     }
     walk_places(
         period.frame,
-        bounds,
+        plan.bounds,
         held,
         period.kept as usize,
-        places,
-        days,
-        lists,
+        &opened.places,
+        &opened.days,
+        &plan.lists,
         buffer,
     )
 }

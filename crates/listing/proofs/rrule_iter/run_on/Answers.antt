@@ -10,12 +10,15 @@ use Rattle.machine.specs.Compute.{walk}
 use Rattle.stretches.specs.declared.counter_date.Days.{Days}
 use Rattle.stretches.specs.Stretches.{days_in}
 use Rattle.years.specs.declared.iterinfo.IterInfo.{IterInfo}
+use Rattle.opening.specs.declared.period.OpenPeriod.{OpenPeriod}
+use Rattle.opening.specs.Opening.{none_open}
+use lib.ListN.{length}
 use Rattle.plans.specs.declared.plan.Plan.{Plan}
 use Rattle.units.specs.Years.{is_in_year}
 use Rattle.walks.specs.declared.rrule_iter.Walked.{Walked}
 use Rattle.walks.specs.Walks.{given_by, now_of, walked_by}
 use Rattle.listing.proofs.Turns.{Going, Turn, Opens, Walks, to_walk, span_is, info_made, info_covers, sound, ready, refused_right, goes}
-use Rattle.listing.proofs.Turns.{room_is, stops_right, moves_left, no_tick_right, range_right, moves_one, leads_on}
+use Rattle.listing.proofs.Turns.{room_is, stops_right, moves_left, ends_right, moves_one, leads_on}
 use Rattle.listing.proofs.Turns.{begins_at, rebuilt, nearer_by_year, nearer_by_move}
 use Rattle.listing.proofs.rrule_iter.run_on.Goals as goal
 use Rattle.listing.proofs.rrule_iter.run_on.Goals.{After-is_taken}
@@ -28,10 +31,10 @@ is_covered plan info number = is_in_year info.year (days_in plan.shape.freq numb
 
 turn : After-is_taken → Turn
 turn c = record {
-  r = c.args.rule;
+  r = c.args.rule.now;
   h = c.requires.0;
   one = c.requires.5;
-  plan = c.args.plan;
+  plan = c.args.plan.now;
   p = c.requires.1;
   m = c.args.m;
   c = c.args.cursor;
@@ -41,24 +44,21 @@ turn c = record {
   counter = c.loop-info.counter;
   held = c.loop-info.held;
   tried = c.loop-info.tried;
-  days = c.loop-info.days;
-  places = c.loop-info.places;
+  opened = c.loop-info.opened;
   info = c.loop-info.info;
   a = c.loop-info.invariant;
   span = c.days_of-span.result;
   s = c.days_of-span.ensures;
-  covered = sym c.covers.ensures ∙ not-false _ c.if-not-covers.false-raw;
+  covered = sym c.covers.ensures ∙ c.if-not-covers.false;
 }
 
 opens : (c : After-is_taken) → Opens (turn c)
 unfolding turn
 opens c = record {
-  period = c.open_period-period.result;
-  days = c.open_period-period.new.days;
-  places = c.open_period-period.new.places;
-  period_told = c.open_period-period.ensures.period;
-  days_told = c.open_period-period.ensures.days;
-  places_told = c.open_period-period.ensures.places;
+  opened = c.open_period.new.opened;
+  period_told = c.open_period.ensures.period;
+  days_told = c.open_period.ensures.days;
+  places_told = c.open_period.ensures.places;
 }
 
 -- the cursor is taken, so the run goes on
@@ -81,12 +81,14 @@ walks c e w buffer told = record {
 -- ---- the calls' conditions, the loop, and the answers
 
 pub loop-info-init : goal.loop-info-init
+unfolding none_open
 loop-info-init c =
     let a = c.args in
-    let span = span_is a.rule a.plan c.requires.1 a.cursor.k a.begun c.days_of-first.result c.requires.2 c.days_of-first.ensures in
-    begins_at a.rule a.m a.cursor c.held_at-held.result a.buffer.now a.begun _ _ c.rebuild-info.result _
-    c.requires.3 c.held_at-held.ensures c.requires.2 refl refl
-    (info_made a.rule a.plan c.requires.1 c.requires.0 a.cursor.k c.requires.3 c.days_of-first.result span c.rebuild-info.result
+    let span = span_is a.rule.now a.plan.now c.requires.1 a.cursor.k a.begun c.days_of-first.result c.requires.2 c.days_of-first.ensures in
+    begins_at a.rule.now a.m a.cursor c.held_at-held.result a.buffer.now a.begun _ c.rebuild-info.result _
+    c.requires.3 c.held_at-held.ensures c.requires.2
+    (ap (λ (o : OpenPeriod). length o.days) c.none_open-opened.ensures) (ap (λ (o : OpenPeriod). length o.places) c.none_open-opened.ensures)
+    (info_made a.rule.now a.plan.now c.requires.1 c.requires.0 a.cursor.k c.requires.3 c.days_of-first.result span c.rebuild-info.result
     c.year_at.result c.year_at.ensures c.rebuild-info.ensures)
     c.well_formed.1.1.1.1.1.0.1
 
@@ -95,11 +97,11 @@ loop-info-smaller-then-not-covers c =
     let a = c.args in
     let l = c.loop-info in
     let info = c.rebuild-info-then-not-covers in
-    let span = span_is a.rule a.plan c.requires.1 l.counter.k l.counter c.days_of-span.result l.invariant.counted c.days_of-span.ensures in
+    let span = span_is a.rule.now a.plan.now c.requires.1 l.counter.k l.counter c.days_of-span.result l.invariant.counted c.days_of-span.ensures in
     nearer_by_year (2 * (a.m - l.held.moves)) _ _
-    (ap (λ (x : Days). is_in_year l.info.year x.from) (sym c.days_of-span.ensures) ∙ sym c.covers.ensures ∙ not-true _ c.if-not-covers.true-raw)
+    (ap (λ (x : Days). is_in_year l.info.year x.from) (sym c.days_of-span.ensures) ∙ sym c.covers.ensures ∙ c.if-not-covers.true)
     (ap (λ (x : Days). is_in_year info.result.year x.from) (sym c.days_of-span.ensures)
-    ∙ info_covers a.rule a.plan c.requires.1 c.requires.0 l.counter.k l.invariant.ranged c.days_of-span.result span info.result
+    ∙ info_covers a.rule.now a.plan.now c.requires.1 c.requires.0 l.counter.k l.invariant.ranged c.days_of-span.result span info.result
     c.year_at-then-not-covers.result c.year_at-then-not-covers.ensures info.ensures)
 
 pub loop-info-preserved-then-not-covers : goal.loop-info-preserved-then-not-covers
@@ -107,9 +109,9 @@ loop-info-preserved-then-not-covers c =
     let a = c.args in
     let l = c.loop-info in
     let info = c.rebuild-info-then-not-covers in
-    let span = span_is a.rule a.plan c.requires.1 l.counter.k l.counter c.days_of-span.result l.invariant.counted c.days_of-span.ensures in
-    rebuilt a.rule a.m a.cursor _ _ _ _ _ _ _ l.info info.result _ l.invariant
-    (info_made a.rule a.plan c.requires.1 c.requires.0 l.counter.k l.invariant.ranged c.days_of-span.result span info.result
+    let span = span_is a.rule.now a.plan.now c.requires.1 l.counter.k l.counter c.days_of-span.result l.invariant.counted c.days_of-span.ensures in
+    rebuilt a.rule.now a.m a.cursor _ _ _ _ _ _ l.info info.result _ l.invariant
+    (info_made a.rule.now a.plan.now c.requires.1 c.requires.0 l.counter.k l.invariant.ranged c.days_of-span.result span info.result
     c.year_at-then-not-covers.result c.year_at-then-not-covers.ensures info.ensures)
 
 pub shape_of-buffer-then-not-is_taken : goal.shape_of-buffer-then-not-is_taken
@@ -120,75 +122,60 @@ unfolding turn opens
 returns-then-not-is_taken c =
     let d = (goal.at.returns-then-not-is_taken c).After-is_taken in
     refused_right (turn d) (opens d) c.is_taken.result c.is_taken.ensures c.refused.result c.refused.ensures
-    (not-true _ c.if-not-is_taken.true-raw)
+    c.if-not-is_taken.true
 
 pub walk_period-walked-requires : goal.walk_period-walked-requires
 unfolding turn opens going
 walk_period-walked-requires c =
     let d = (goal.at.walk_period-walked-requires c).After-is_taken in
     let t = turn d in
-    (sound t (opens d), ready t (opens d) (going d (not-false _ c.if-not-is_taken.false-raw)) c.well_formed.1.1.1.1.0.1)
+    (sound t (opens d), ready t (opens d) (going d c.if-not-is_taken.false) c.well_formed.1.1.1.1.0.1)
 
-pub shape_of-buffer-in-Stops : goal.shape_of-buffer-in-Stops
+pub shape_of-buffer-in-Some : goal.shape_of-buffer-in-Some
 unfolding turn opens walks
-shape_of-buffer-in-Stops c =
-    let d = (goal.at.shape_of-buffer-in-Stops c).After-is_taken in
-    let v = walks d (not-false _ c.if-not-is_taken.false-raw) c.walk_period-walked.result c.walk_period-walked.new.buffer c.walk_period-walked.ensures in
+shape_of-buffer-in-Some c =
+    let d = (goal.at.shape_of-buffer-in-Some c).After-is_taken in
+    let v = walks d c.if-not-is_taken.false c.walk_period-walked.result c.walk_period-walked.new.buffer c.walk_period-walked.ensures in
     room_is (turn d) (opens d) v
 
-pub returns-in-Stops : goal.returns-in-Stops
+pub returns-in-Some : goal.returns-in-Some
 unfolding turn opens walks
-returns-in-Stops c =
-    let d = (goal.at.returns-in-Stops c).After-is_taken in
-    let v = walks d (not-false _ c.if-not-is_taken.false-raw) c.walk_period-walked.result c.walk_period-walked.new.buffer c.walk_period-walked.ensures in
-    stops_right (turn d) (opens d) v c.in-Stops.answer (sym c.in-Stops.is ∙ c.settle.ensures)
+returns-in-Some c =
+    let d = (goal.at.returns-in-Some c).After-is_taken in
+    let v = walks d c.if-not-is_taken.false c.walk_period-walked.result c.walk_period-walked.new.buffer c.walk_period-walked.ensures in
+    stops_right (turn d) (opens d) v c.in-Some.answer (sym c.in-Some.is ∙ c.settle.ensures)
 
 pub loop-info-smaller : goal.loop-info-smaller
 unfolding turn opens walks
 loop-info-smaller c =
     let d = (goal.at.loop-info-smaller c).After-is_taken in
-    let v = walks d (not-false _ c.if-not-is_taken.false-raw) c.walk_period-walked.result c.walk_period-walked.new.buffer c.walk_period-walked.ensures in
+    let v = walks d c.if-not-is_taken.false c.walk_period-walked.result c.walk_period-walked.new.buffer c.walk_period-walked.ensures in
     let t = turn d in
-    let q = sym c.in-Moves.is ∙ c.settle.ensures in
+    let q = sym c.in_default.is ∙ c.settle.ensures in
     nearer_by_move t.m t.held.moves c.moved_to-held.result.moves (is_covered t.plan t.info t.counter.number)
-    (is_covered t.plan t.info c.in-To.next.number) (moves_left t (opens d) v q)
-    (moves_one t (opens d) v q c.increment.result c.increment.ensures c.in-To.next
-    c.in-To.is c.moved_to-held.result c.moved_to-held.ensures)
+    (is_covered t.plan t.info c.in-Ok.next.number) (moves_left t (opens d) v q)
+    (moves_one t (opens d) v q c.increment.result c.increment.ensures c.in-Ok.next
+    c.in-Ok.is c.moved_to-held.result c.moved_to-held.ensures)
 
 pub loop-info-preserved : goal.loop-info-preserved
 unfolding turn opens walks
 loop-info-preserved c =
     let d = (goal.at.loop-info-preserved c).After-is_taken in
-    let v = walks d (not-false _ c.if-not-is_taken.false-raw) c.walk_period-walked.result c.walk_period-walked.new.buffer c.walk_period-walked.ensures in
-    leads_on (turn d) (opens d) v (sym c.in-Moves.is ∙ c.settle.ensures) c.increment.result c.increment.ensures c.in-To.next
-    c.in-To.is c.moved_to-held.result c.moved_to-held.ensures
+    let v = walks d c.if-not-is_taken.false c.walk_period-walked.result c.walk_period-walked.new.buffer c.walk_period-walked.ensures in
+    leads_on (turn d) (opens d) v (sym c.in_default.is ∙ c.settle.ensures) c.increment.result c.increment.ensures c.in-Ok.next
+    c.in-Ok.is c.moved_to-held.result c.moved_to-held.ensures
 
-pub shape_of-buffer-in-NoTick : goal.shape_of-buffer-in-NoTick
+pub shape_of-buffer-in-Err : goal.shape_of-buffer-in-Err
 unfolding turn opens walks
-shape_of-buffer-in-NoTick c =
-    let d = (goal.at.shape_of-buffer-in-NoTick c).After-is_taken in
-    let v = walks d (not-false _ c.if-not-is_taken.false-raw) c.walk_period-walked.result c.walk_period-walked.new.buffer c.walk_period-walked.ensures in
+shape_of-buffer-in-Err c =
+    let d = (goal.at.shape_of-buffer-in-Err c).After-is_taken in
+    let v = walks d c.if-not-is_taken.false c.walk_period-walked.result c.walk_period-walked.new.buffer c.walk_period-walked.ensures in
     room_is (turn d) (opens d) v
 
-pub returns-in-NoTick : goal.returns-in-NoTick
+pub returns-in-Err : goal.returns-in-Err
 unfolding turn opens walks
-returns-in-NoTick c =
-    let d = (goal.at.returns-in-NoTick c).After-is_taken in
-    let v = walks d (not-false _ c.if-not-is_taken.false-raw) c.walk_period-walked.result c.walk_period-walked.new.buffer c.walk_period-walked.ensures in
-    no_tick_right (turn d) (opens d) v (sym c.in-Moves.is ∙ c.settle.ensures) c.increment.result
-    c.increment.ensures c.ended.result c.in-NoTick.is c.ended.ensures
-
-pub shape_of-buffer-in-Range : goal.shape_of-buffer-in-Range
-unfolding turn opens walks
-shape_of-buffer-in-Range c =
-    let d = (goal.at.shape_of-buffer-in-Range c).After-is_taken in
-    let v = walks d (not-false _ c.if-not-is_taken.false-raw) c.walk_period-walked.result c.walk_period-walked.new.buffer c.walk_period-walked.ensures in
-    room_is (turn d) (opens d) v
-
-pub returns-in-Range : goal.returns-in-Range
-unfolding turn opens walks
-returns-in-Range c =
-    let d = (goal.at.returns-in-Range c).After-is_taken in
-    let v = walks d (not-false _ c.if-not-is_taken.false-raw) c.walk_period-walked.result c.walk_period-walked.new.buffer c.walk_period-walked.ensures in
-    range_right (turn d) (opens d) v (sym c.in-Moves.is ∙ c.settle.ensures) c.increment.result
-    c.increment.ensures c.ended-in-Range.result c.in-Range.is c.ended-in-Range.ensures
+returns-in-Err c =
+    let d = (goal.at.returns-in-Err c).After-is_taken in
+    let v = walks d c.if-not-is_taken.false c.walk_period-walked.result c.walk_period-walked.new.buffer c.walk_period-walked.ensures in
+    ends_right (turn d) (opens d) v (sym c.in_default.is ∙ c.settle.ensures) c.increment.result c.increment.ensures c.in-Err.cause
+    c.ended.result c.in-Err.is c.ended.ensures

@@ -9,7 +9,7 @@ use Rattle.listing.proofs.rrule_iter.run_on.Given as goal
 
 abbrev pub invariant-loop-info : goal.invariant-loop-info
 invariant-loop-info l =
-    At l.rule l.m l.cursor l.initial.buffer l.buffer l.counter l.held l.tried l.days l.places l.info
+    At l.rule l.m l.cursor l.initial.buffer l.buffer l.counter l.held l.tried l.opened l.info
 
 abbrev pub decreases-loop-info : goal.decreases-loop-info
 decreases-loop-info l =

@@ -9,4 +9,4 @@ returns c =
     let s = c in
     let a = s.args in
     c.walk_days.ensures.walked
-    ∙ passed_same a.frame a.bounds a.held a.days.now a.lists.now a.buffer.now c.pass_days-passed.result s.requires.0 s.requires.1 s.requires.2 c.pass_days-passed.ensures
+    ∙ passed_same a.opened.now.period.frame a.plan.now.bounds a.held a.opened.now.days a.plan.now.lists a.buffer.now c.pass_days-passed.result s.requires.0 s.requires.1 s.requires.2 c.pass_days-passed.ensures
