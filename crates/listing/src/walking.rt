@@ -13,47 +13,54 @@ use crossing::rrule_iter::walk_days;
 use opening::period::OpenPeriod;
 use passing::rrule_iter::pass_days;
 use plans::plan::Plan;
-use walks::rrule_iter::{Held, Walked, Why};
+use walks::rrule_iter::{Bounds, Candidates, Held, Walked, Why};
 
 // The walk over all candidates, from the place on: over days and times, whole days before the start at one go.
-fn walk_all(plan: &Plan, opened: &OpenPeriod, held: Held, buffer: &mut [u64]) -> Walked
-    requires { Framed opened.now.period.frame × Timely opened.now.period.frame plan.now.lists × Ready plan.now.bounds held buffer.old }
+fn walk_all(candidates: &Candidates, bounds: Bounds, held: Held, buffer: &mut [u64]) -> Walked
+    requires { Framed candidates.now.frame × Timely candidates.now.frame candidates.now.lists.now × Ready bounds held buffer.old }
     ensures { walked_by result buffer.new
-        ≡ days_walk opened.now.period.frame plan.now.bounds held opened.now.days plan.now.lists buffer.old }
+        ≡ days_walk candidates.now.frame bounds held candidates.now.days.now candidates.now.lists.now buffer.old }
 {
-    let frame = opened.period.frame;
     // nothing is before the start where something was handed out already
     let none = (0 < held.cursor.number) | (held.handed == buffer.len());
-    let passed = pass_days(none, frame, plan.bounds, held, &opened.days);
-    walk_days(frame, plan.bounds, passed, &opened.days, &plan.lists, buffer)
+    let passed = pass_days(none, candidates.frame, bounds, held, candidates.days);
+    walk_days(candidates, bounds, passed, buffer)
 }
 
 // The walk over a period's kept candidates, from the place on.
-pub(crate) fn walk_period(plan: &Plan, opened: &OpenPeriod, held: Held, buffer: &mut [u64]) -> Walked
+pub(crate) fn walk_period(
+    plan: &Plan,
+    opened: &OpenPeriod,
+    held: Held,
+    buffer: &mut [u64],
+) -> Walked
     requires { Sound plan.now.shape.positioned opened.now.period plan.now.lists × Ready plan.now.bounds held buffer.old }
     ensures { walked_by result buffer.new
         ≡ walk (given_by plan.now.bounds)
         (tabled (second_kept plan.now.shape.positioned opened.now.period.frame opened.now.days plan.now.lists opened.now.places)
         held.cursor.place (opened.now.period.kept - held.cursor.place)) (now_of State.Running held buffer.old) }
 {
-    let period = opened.period;
-    if period.kept == 0 {
+    let kept = opened.period.kept;
+    if kept == 0 {
         return Walked {
             why: Why::Through,
             held,
         };
     }
+    let candidates = Candidates {
+        frame: opened.period.frame,
+        days: &opened.days,
+        lists: &plan.lists,
+    };
     if !plan.shape.positioned {
-        return walk_all(plan, opened, held, buffer);
+        return walk_all(&candidates, plan.bounds, held, buffer);
     }
     walk_places(
-        period.frame,
+        &candidates,
         plan.bounds,
         held,
-        period.kept as usize,
+        kept as usize,
         &opened.places,
-        &opened.days,
-        &plan.lists,
         buffer,
     )
 }

@@ -6,7 +6,8 @@ use Rattle.listing.proofs.walking.walk_all.Goals as goal
 
 pub returns : goal.returns
 returns c =
-    let s = c in
-    let a = s.args in
+    let a = c.args in
+    let ps = a.candidates.now in
     c.walk_days.ensures.walked
-    ∙ passed_same a.opened.now.period.frame a.plan.now.bounds a.held a.opened.now.days a.plan.now.lists a.buffer.now c.pass_days-passed.result s.requires.0 s.requires.1 s.requires.2 c.pass_days-passed.ensures
+    ∙ passed_same ps.frame a.bounds a.held ps.days.now ps.lists.now a.buffer.now c.pass_days-passed.result c.requires.0 c.requires.1 c.requires.2
+    c.pass_days-passed.ensures
