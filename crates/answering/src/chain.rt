@@ -123,7 +123,7 @@ fn cursor_of(chain: Chain) -> Cursor {
 
 fn call_filled(rule: Rule, from: Cursor, buffer: &mut [u64], budget: u32) -> Answer {
     fill(buffer);
-    rrule_iter::run(rule, from, buffer, budget)
+    rrule_iter::run(&rule, from, buffer, budget)
 }
 
 fn added(before: Chain, answer: Answer, kept: bool, waiting: usize) -> Chain {

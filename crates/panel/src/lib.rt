@@ -154,7 +154,7 @@ pub extern "C" fn yomaveludge_run(
         return unreadable_number(rule);
     }
     let cursor = cursor_in(cursorbytes);
-    let answer = run(rule, cursor, buffer, moves);
+    let answer = run(&rule, cursor, buffer, moves);
     let stop = answer.stop;
     let number = stop_number(stop);
     if is_refused(stop) {

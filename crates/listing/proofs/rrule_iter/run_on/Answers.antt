@@ -1,10 +1,9 @@
 -- `listing::rrule_iter::run_on` meets its contract. Each place of the loop has a name; what is known there is one record.
 -- Assumes nothing.
 use Prim.Native.Nat.{ℕ, ◌-◌, ◌*◌}
-use mathlib.Core.Path.{◌≡◌, refl, sym, ap, ◌∙◌}
+use mathlib.Core.Path.{◌≡◌, sym, ap, ◌∙◌}
 use mathlib.Core.Bool.{Bool, true}
 use mathlib.Core.List.{List}
-use borrow.Author.Tests.{not-true, not-false}
 use Rattle.machine.specs.declared.State.{State}
 use Rattle.machine.specs.Compute.{walk}
 use Rattle.stretches.specs.declared.counter_date.Days.{Days}
