@@ -15,7 +15,7 @@ use Rattle.rule.specs.Days.{nth_passes}
 use Rattle.rule.proofs.SetLaws.{flags_at_lem}
 use Rattle.weeks.specs.declared.yearinfo.Year.{Year}
 use Rattle.nths.specs.Masks.{year_day_at, year_length_at, nth_at, nth_mask}
-use Rattle.nths.specs.Marks.{NoEntry, Marked}
+use Rattle.nths.specs.Marks.{NoEntry, Marked, rows_of}
 use Rattle.nths.proofs.Rows.{row, year_day_lem}
 use Rattle.nths.proofs.Slots.{nth_slots}
 use Rattle.nths.proofs.NthLaws.{nth_past, nth_in_year, nth_in_month}
@@ -38,6 +38,11 @@ one_row_more s w from n false f e row l h = go (dec_lt row n)
 pub all_rows : (s : List Bool) (w from n to : ℕ) → to ≤ n → NoEntry s w from n → NoEntry s w from to
 unfolding NoEntry
 all_rows s w from n to h f row l k = f row l (omega arith)
+
+-- the rows lie in the set
+pub rows_in : (inyear : Bool) → ((rows_of inyear).0 ≤ (rows_of inyear).1) × ((rows_of inyear).1 ≤ 107)
+rows_in true = (omega arith, omega arith)
+rows_in false = (omega arith, omega arith)
 
 -- Without an entry no day passes: a month's days ask for the rows 48 to 58.
 none_passes : (s : List Bool) (w p l from to : ℕ) → w < 7 → 1 ≤ p → p ≤ 366 → 1 ≤ l → l ≤ 366
@@ -130,11 +135,10 @@ module _ (f : ℕ → Bool) (first n : ℕ) where
 
 -- the mask of a year: a weekday with no entry, and the whole
 module _ (y : Year) (s : List Bool) where
-  pub left_out_of_months : (w : ℕ) → NoEntry s w 48 59 → (k : ℕ) → k < days_of y.long + 7 → weekday (y.first + k) ≡ w → nth_at false y s k ≡ false
-  left_out_of_months w n k h e = none_in_month y s k h (rw e n)
-
-  pub left_out_of_year : (w : ℕ) → NoEntry s w 0 107 → (k : ℕ) → k < days_of y.long + 7 → weekday (y.first + k) ≡ w → nth_at true y s k ≡ false
-  left_out_of_year w n k h e = none_in_year y s k h (rw e n)
+  pub left_out : (inyear : Bool) (w : ℕ) → NoEntry s w (rows_of inyear).0 (rows_of inyear).1 → (k : ℕ) → k < days_of y.long + 7 → weekday (y.first + k) ≡ w
+      → nth_at inyear y s k ≡ false
+  left_out true w n k h e = none_in_year y s k h (rw e n)
+  left_out false w n k h e = none_in_month y s k h (rw e n)
 
   pub mask_is : (inyear : Bool) (mask : List Bool) → Through (nth_at inyear y s) y.first (days_of y.long + 7) 7 mask → mask ≡ nth_mask inyear y s
   unfolding nth_mask

@@ -1,7 +1,7 @@
 -- The days of a year, and the seven days after it, by their places from 0 on; and the mask of the nth weekdays among them.
 -- Assumes nothing.
-use Rattle.std.specs.Prelude.{ℕ, ◌+◌, ◌-◌, Bool, ◌&&◌, List, ltb, if◌then◌else◌}
-use Rattle.calendar.specs.Calendar.{days_of, table_day, weekday}
+use Rattle.std.specs.Prelude.{ℕ, ◌+◌, ◌-◌, ◌<◌, ◌≡◌, Bool, ◌&&◌, List, ltb, if◌then◌else◌}
+use Rattle.calendar.specs.Calendar.{days_of, table_day, from_end, weekday}
 use Rattle.rule.specs.Lists.{flags}
 use Rattle.rule.specs.Days.{nth_passes}
 use Rattle.weeks.specs.declared.yearinfo.Year.{Year}
@@ -29,3 +29,15 @@ nth_at inyear y s i =
 unfoldable pub nth_mask : Bool → Year → List Bool → List Bool
 unfolding nth_at flags
 nth_mask inyear y s = flags (nth_at inyear y s) 373 0
+
+-- The day at place i in its year, or else in its month, counted from 1, and the same from the end.
+abbrev pub day_at : Bool → Year → ℕ → ℕ
+day_at inyear y i = if inyear then year_day_at y.long i else (table_day y.long i).day
+
+abbrev pub left_at : Bool → Year → ℕ → ℕ
+left_at inyear y i = if inyear then year_length_at y.long y.nextlong i + 1 - year_day_at y.long i else from_end (table_day y.long i)
+
+-- A function tells both of each place in the tables.
+abbrev pub TellsEnds : {F : Type 0} → (F → ℕ → Type 0) → (F → ℕ → ℕ × ℕ → Type 0) → F → Bool → Year → Type 0
+TellsEnds pre post f inyear y = (i : ℕ) → i < days_of y.long + 7
+    → pre f i × ((told : ℕ × ℕ) → post f i told → (told.0 ≡ day_at inyear y i) × (told.1 ≡ left_at inyear y i))

@@ -3,10 +3,10 @@
 ghost use Rattle.std.specs.Prelude.{◌≡◌, true, false, ◌+◌, ◌-◌, ◌%◌, ◌≤◌, ◌<◌, length};
 ghost use Rattle.calendar.specs.Calendar.{days_of, month_day_table, from_end_table};
 ghost use Rattle.rule.specs.Days.{nth_passes};
-ghost use Rattle.nths.specs.Masks.{nth_at, nth_mask};
-ghost use Rattle.nths.specs.Marks.{NoEntry, Marked};
+ghost use Rattle.nths.specs.Masks.{nth_at, nth_mask, TellsEnds};
+ghost use Rattle.nths.specs.Marks.{NoEntry, Marked, rows_of};
 
-use crate::places::{year_day, year_day_from_end};
+use crate::places::{days_of, year_day, year_day_from_end};
 use dates::masks::{month_day_from_end_table, month_day_table};
 use weeks::yearinfo::Year;
 
@@ -18,6 +18,13 @@ fn nth_passes(byday: &[bool; 749], weekday: usize, place: usize, left: usize) ->
     let forward = ((place - 1) / 7 + 54) * 7 + weekday;
     let back = (52 - (left - 1) / 7) * 7 + weekday;
     byday[forward] | byday[back]
+}
+
+// The rows of the set that a day can pass, from one up to another: a day of a month passes n from -5 to 5.
+fn rows_of(inyear: bool) -> (usize, usize)
+    ensures { result ≡ rows_of inyear }
+{
+    if inyear { (0, 107) } else { (48, 59) }
 }
 
 // Whether the set has an entry for a weekday in the rows from one up to another.
@@ -32,13 +39,6 @@ fn has_entry(byday: &[bool; 749], weekday: usize, from: usize, to: usize) -> boo
     some
 }
 
-// The places of a year's tables.
-fn places_of(long: bool) -> usize
-    ensures { result ≡ days_of long + 7 }
-{
-    if long { 373 } else { 372 }
-}
-
 // The first place that falls on a weekday, in the year with this first day.
 fn first_place(first: u64, weekday: usize) -> usize
     requires { weekday < 7 }
@@ -47,68 +47,41 @@ fn first_place(first: u64, weekday: usize) -> usize
     (weekday + 7 - (first % 7) as usize) % 7
 }
 
-// Marks the days of a weekday that pass, where the entries count in the year.
-fn mark_in_year(year: Year, byday: &[bool; 749], weekday: usize, mask: &mut [bool; 373])
-    requires { (weekday < 7) × (length mask.old ≡ 373) }
-    ensures { Marked (nth_at true year byday.now) year.first weekday (days_of year.long + 7) mask.old mask.new }
-{
-    let end = places_of(year.long);
-    let mut place = first_place(year.first, weekday);
-    while place < end {
-        let day = year_day(year.long, place);
-        let left = year_day_from_end(year.long, year.nextlong, place);
-        mask[place] = nth_passes(byday, weekday, day, left);
-        place += 7;
-    }
-}
-
-// Only weekdays that have an entry are gone through.
-fn year_mask(year: Year, byday: &[bool; 749]) -> [bool; 373]
-    ensures { result ≡ nth_mask true year byday.now }
-{
-    let mut mask = [false; 373];
-    for weekday in 0..7 {
-        if !has_entry(byday, weekday, 0, 107) {
-            continue;
-        }
-        mark_in_year(year, byday, weekday, &mut mask);
-    }
-    mask
-}
-
-// The same where they count in the month. The day of the month and that from the month's end are read of the year's tables.
-fn mark_in_month<'a>(
+// Marks the days of a weekday that pass. `ends` tells of a place its day in its year or month, counted from 1, and the same from the end.
+fn mark_days<F: Fn(usize) -> (usize, usize)>(
+    inyear: bool,
     year: Year,
     byday: &[bool; 749],
     weekday: usize,
-    monthdays: &'a [u8; 373],
-    fromends: &'a [u8; 373],
+    ends: &F,
     mask: &mut [bool; 373],
 )
-    requires { (weekday < 7) × (length mask.old ≡ 373) × (monthdays.now ≡ month_day_table year.long) × (fromends.now ≡ from_end_table year.long) }
-    ensures { Marked (nth_at false year byday.now) year.first weekday (days_of year.long + 7) mask.old mask.new }
+    requires sizes { (weekday < 7) × (length mask.old ≡ 373) }
+    requires told { TellsEnds F.pre F.post ends.now inyear year }
+    ensures { Marked (nth_at inyear year byday.now) year.first weekday (days_of year.long + 7) mask.old mask.new }
 {
-    let mut place = first_place(year.first, weekday);
-    while place < places_of(year.long) {
-        let day = monthdays[place] as usize;
-        let left = fromends[place] as usize;
+    for place in (first_place(year.first, weekday)..days_of(year.long) + 7).step_by(7) {
+        let (day, left) = ends(place);
         mask[place] = nth_passes(byday, weekday, day, left);
-        place += 7;
     }
 }
 
-// A day of a month can pass n from -5 to 5: rows 48 to 58.
-fn month_mask(year: Year, byday: &[bool; 749]) -> [bool; 373]
-    ensures { result ≡ nth_mask false year byday.now }
+// The mask, where `ends` tells so of a place. Only weekdays that have an entry are gone through.
+fn mask_by<F: Fn(usize) -> (usize, usize)>(
+    inyear: bool,
+    year: Year,
+    byday: &[bool; 749],
+    ends: &F,
+) -> [bool; 373]
+    requires { TellsEnds F.pre F.post ends.now inyear year }
+    ensures { result ≡ nth_mask inyear year byday.now }
 {
-    let monthdays = month_day_table(year.long);
-    let fromends = month_day_from_end_table(year.long);
+    let rows = rows_of(inyear);
     let mut mask = [false; 373];
     for weekday in 0..7 {
-        if !has_entry(byday, weekday, 48, 59) {
-            continue;
+        if has_entry(byday, weekday, rows.0, rows.1) {
+            mark_days(inyear, year, byday, weekday, ends, &mut mask);
         }
-        mark_in_month(year, byday, weekday, &monthdays, &fromends, &mut mask);
     }
     mask
 }
@@ -117,8 +90,17 @@ fn month_mask(year: Year, byday: &[bool; 749]) -> [bool; 373]
 pub fn neg_weekday_mask(inyear: bool, year: Year, byday: &[bool; 749]) -> [bool; 373]
     ensures { result ≡ nth_mask inyear year byday.now }
 {
-    if inyear {
-        return year_mask(year, byday);
+    if !inyear {
+        let monthdays = month_day_table(year.long);
+        let fromends = month_day_from_end_table(year.long);
+        let in_month = |place: usize| (monthdays[place] as usize, fromends[place] as usize);
+        return mask_by(inyear, year, byday, &in_month);
     }
-    month_mask(year, byday)
+    let in_year = |place| {
+        (
+            year_day(year.long, place),
+            year_day_from_end(year.long, year.nextlong, place),
+        )
+    };
+    mask_by(inyear, year, byday, &in_year)
 }

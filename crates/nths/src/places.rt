@@ -29,5 +29,5 @@ pub fn year_day_from_end(long: bool, nextlong: bool, place: usize) -> usize
         return length - place;
     }
     let end = days_of(nextlong) + length;
-    if place < end { end - place } else { 0 }
+    end.saturating_sub(place)
 }

@@ -17,17 +17,8 @@ overflow_add-end c =
     let a = c.args in
     rw (c.days_of.ensures, c.days_of-length.ensures) (omega (arith, days_high a.long, days_high a.nextlong))
 
-pub returns-then-place-end : goal.returns-then-place-end
-returns-then-place-end c =
-    let a = c.args in
-    let e = c.days_of-length.ensures in
-    let f = c.days_of.ensures in
-    let p = next_year a.long a.place (rw (← e) (omega arith)) in
-    let q = next_length a.long a.nextlong a.place (rw (← e) (omega arith)) in
-    rw (p, q, e, f) (omega arith)
-
-pub returns-else-place-end : goal.returns-else-place-end
-returns-else-place-end c =
+pub returns : goal.returns
+returns c =
     let a = c.args in
     let e = c.days_of-length.ensures in
     let f = c.days_of.ensures in
