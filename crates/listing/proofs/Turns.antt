@@ -109,7 +109,8 @@ coarse_alike : (f : Frequency) (interval : ℕ) (c : Counter) (clock : List Bool
     → incremented f interval c x clock ≡ incremented f interval c y clock
 unfolding incremented
 coarse_alike f interval c clock e x y =
-    ap (λ (n : ℕ). if stands f interval c then arrive f (step_of f interval) c (landing f (step_of f interval) c clock (n + 1)) else Err Cause.Range) (alike f e)
+    ap (λ (n : ℕ). if stands f interval c then arrive f (step_of f interval) c (landing f (step_of f interval) c clock (n + 1)) else Err Cause.Range)
+    (alike f e)
   where
     alike : (f : Frequency) → is_below Frequency.Daily f ≡ false
         → skipped (ticks f) (step_of f interval) c.tick x ≡ skipped (ticks f) (step_of f interval) c.tick y
@@ -590,7 +591,8 @@ module _ (t : Turn) where
 
 -- ---- before the first turn, and where the year changes
 pub begins_at : (r : Rule) (m : ℕ) (c : Cursor) (held : Held) (b₀ : List ℕ) (first : Counter) (opened : OpenPeriod) (info : IterInfo) (y : ℕ)
-    → in_range r c.k ≡ true → held ≡ held_of c → first ≡ counter_at r c.k → length opened.days ≡ 373 → length opened.places ≡ 732 → info ≡ rule_info r y → m < 2 ^ 32
+    → in_range r c.k ≡ true → held ≡ held_of c → first ≡ counter_at r c.k → length opened.days ≡ 373 → length opened.places ≡ 732
+    → info ≡ rule_info r y → m < 2 ^ 32
     → At r m c b₀ b₀ first held false opened info
 begins_at r m c held b₀ first slots info y inside e f d l i z =
     let k : first.k ≡ c.k = ap (λ (x : Counter). x.k) f ∙ k_is r c.k in

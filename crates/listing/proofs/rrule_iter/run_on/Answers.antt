@@ -20,7 +20,7 @@ use Rattle.listing.proofs.Turns.{Going, Turn, Opens, Walks, to_walk, span_is, in
 use Rattle.listing.proofs.Turns.{room_is, stops_right, moves_left, ends_right, moves_one, leads_on}
 use Rattle.listing.proofs.Turns.{begins_at, rebuilt, nearer_by_year, nearer_by_move}
 use Rattle.listing.proofs.rrule_iter.run_on.Goals as goal
-use Rattle.listing.proofs.rrule_iter.run_on.Goals.{After-is_taken}
+use Rattle.listing.proofs.rrule_iter.run_on.Goals.{After-is_taken, After-walk_period-walked}
 
 -- whether a year covers the period of this number
 abbrev is_covered : Plan → IterInfo → ℕ → Bool
@@ -67,14 +67,17 @@ going : (c : After-is_taken) → c.is_taken.result ≡ true →
 unfolding turn opens
 going c e = goes (turn c) (opens c) c.is_taken.result c.is_taken.ensures e
 
-walks : (c : After-is_taken) → c.is_taken.result ≡ true → (w : Walked) (buffer : List ℕ) →
-    let t = turn c in
-    walked_by w buffer ≡ walk (given_by t.plan.bounds) (to_walk t (opens c)) (now_of State.Running t.held t.buffer) → Walks t (opens c)
-walks c e w buffer told = record {
-  going = going c e;
-  w = w;
-  buffer = buffer;
-  told = told;
+-- what the walk tells
+before_walk : After-walk_period-walked → After-is_taken
+before_walk c = c.before.before.before.before
+
+walks : (c : After-walk_period-walked) → Walks (turn (before_walk c)) (opens (before_walk c))
+unfolding turn opens before_walk
+walks c = record {
+  going = going (before_walk c) c.if-not-is_taken.false;
+  w = c.walk_period-walked.result;
+  buffer = c.walk_period-walked.new.buffer;
+  told = c.walk_period-walked.ensures;
 }
 
 -- ---- the calls' conditions, the loop, and the answers
@@ -131,50 +134,44 @@ walk_period-walked-requires c =
     (sound t (opens d), ready t (opens d) (going d c.if-not-is_taken.false) c.well_formed.1.1.1.1.0.1)
 
 pub shape_of-buffer-in-Some : goal.shape_of-buffer-in-Some
-unfolding turn opens walks
+unfolding turn opens before_walk walks
 shape_of-buffer-in-Some c =
-    let d = (goal.at.shape_of-buffer-in-Some c).After-is_taken in
-    let v = walks d c.if-not-is_taken.false c.walk_period-walked.result c.walk_period-walked.new.buffer c.walk_period-walked.ensures in
-    room_is (turn d) (opens d) v
+    let w = (goal.at.shape_of-buffer-in-Some c).After-walk_period-walked in
+    room_is (turn (before_walk w)) (opens (before_walk w)) (walks w)
 
 pub returns-in-Some : goal.returns-in-Some
-unfolding turn opens walks
+unfolding turn opens before_walk walks
 returns-in-Some c =
-    let d = (goal.at.returns-in-Some c).After-is_taken in
-    let v = walks d c.if-not-is_taken.false c.walk_period-walked.result c.walk_period-walked.new.buffer c.walk_period-walked.ensures in
-    stops_right (turn d) (opens d) v c.in-Some.answer (sym c.in-Some.is ∙ c.settle.ensures)
+    let w = (goal.at.returns-in-Some c).After-walk_period-walked in
+    stops_right (turn (before_walk w)) (opens (before_walk w)) (walks w) c.in-Some.answer (sym c.in-Some.is ∙ c.settle.ensures)
 
 pub loop-info-smaller : goal.loop-info-smaller
-unfolding turn opens walks
+unfolding turn opens before_walk walks
 loop-info-smaller c =
-    let d = (goal.at.loop-info-smaller c).After-is_taken in
-    let v = walks d c.if-not-is_taken.false c.walk_period-walked.result c.walk_period-walked.new.buffer c.walk_period-walked.ensures in
-    let t = turn d in
+    let w = (goal.at.loop-info-smaller c).After-walk_period-walked in
+    let t = turn (before_walk w) in
     let q = sym c.in_default.is ∙ c.settle.ensures in
     nearer_by_move t.m t.held.moves c.moved_to-held.result.moves (is_covered t.plan t.info t.counter.number)
-    (is_covered t.plan t.info c.in-Ok.next.number) (moves_left t (opens d) v q)
-    (moves_one t (opens d) v q c.increment.result c.increment.ensures c.in-Ok.next
+    (is_covered t.plan t.info c.in-Ok.next.number) (moves_left t (opens (before_walk w)) (walks w) q)
+    (moves_one t (opens (before_walk w)) (walks w) q c.increment.result c.increment.ensures c.in-Ok.next
     c.in-Ok.is c.moved_to-held.result c.moved_to-held.ensures)
 
 pub loop-info-preserved : goal.loop-info-preserved
-unfolding turn opens walks
+unfolding turn opens before_walk walks
 loop-info-preserved c =
-    let d = (goal.at.loop-info-preserved c).After-is_taken in
-    let v = walks d c.if-not-is_taken.false c.walk_period-walked.result c.walk_period-walked.new.buffer c.walk_period-walked.ensures in
-    leads_on (turn d) (opens d) v (sym c.in_default.is ∙ c.settle.ensures) c.increment.result c.increment.ensures c.in-Ok.next
+    let w = (goal.at.loop-info-preserved c).After-walk_period-walked in
+    leads_on (turn (before_walk w)) (opens (before_walk w)) (walks w) (sym c.in_default.is ∙ c.settle.ensures) c.increment.result c.increment.ensures c.in-Ok.next
     c.in-Ok.is c.moved_to-held.result c.moved_to-held.ensures
 
 pub shape_of-buffer-in-Err : goal.shape_of-buffer-in-Err
-unfolding turn opens walks
+unfolding turn opens before_walk walks
 shape_of-buffer-in-Err c =
-    let d = (goal.at.shape_of-buffer-in-Err c).After-is_taken in
-    let v = walks d c.if-not-is_taken.false c.walk_period-walked.result c.walk_period-walked.new.buffer c.walk_period-walked.ensures in
-    room_is (turn d) (opens d) v
+    let w = (goal.at.shape_of-buffer-in-Err c).After-walk_period-walked in
+    room_is (turn (before_walk w)) (opens (before_walk w)) (walks w)
 
 pub returns-in-Err : goal.returns-in-Err
-unfolding turn opens walks
+unfolding turn opens before_walk walks
 returns-in-Err c =
-    let d = (goal.at.returns-in-Err c).After-is_taken in
-    let v = walks d c.if-not-is_taken.false c.walk_period-walked.result c.walk_period-walked.new.buffer c.walk_period-walked.ensures in
-    ends_right (turn d) (opens d) v (sym c.in_default.is ∙ c.settle.ensures) c.increment.result c.increment.ensures c.in-Err.cause
+    let w = (goal.at.returns-in-Err c).After-walk_period-walked in
+    ends_right (turn (before_walk w)) (opens (before_walk w)) (walks w) (sym c.in_default.is ∙ c.settle.ensures) c.increment.result c.increment.ensures c.in-Err.cause
     c.ended.result c.in-Err.is c.ended.ensures

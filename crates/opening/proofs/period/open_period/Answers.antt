@@ -22,7 +22,8 @@ days c = let a = c.args in days_by a.plan.now.shape a.info.now (rule_lists a.rul
 abbrev frame : After-frame_of-frame → Frame
 frame c =
     let a = c.args in
-    frame_of a.plan.now.shape.freq a.plan.now.shape.counts a.tick a.info.now.year.first (length (days_by a.plan.now.shape a.info.now (rule_lists a.rule.now) a.span)) a.plan.now.clock
+    frame_of a.plan.now.shape.freq a.plan.now.shape.counts a.tick a.info.now.year.first
+    (length (days_by a.plan.now.shape a.info.now (rule_lists a.rule.now) a.span)) a.plan.now.clock
 
 -- ---- what is told, call by call
 
@@ -37,8 +38,9 @@ told_count c = c.period_days-count.ensures.count ∙ ap (λ (l : List ℕ). leng
 told_places : (c : After-period_days-count) → c.period_days-count.new.days ≡ sets c.args.opened.now.days 0 (days c)
 told_places c = c.period_days-count.ensures.places ∙ ap (sets c.args.opened.now.days 0) (told_days c)
 
-told_frame : (c : After-frame_of-frame) → c.period_days-count.result ≡ length (days_by c.args.plan.now.shape c.args.info.now (rule_lists c.args.rule.now) c.args.span)
-    → c.frame_of-frame.result ≡ frame c
+told_frame : (c : After-frame_of-frame) →
+    let a = c.args in
+    c.period_days-count.result ≡ length (days_by a.plan.now.shape a.info.now (rule_lists a.rule.now) a.span) → c.frame_of-frame.result ≡ frame c
 told_frame c e = rw (c.frame_of-frame.ensures, e)
 
 -- ---- the calls' conditions, and the answers
@@ -47,7 +49,8 @@ pub returns-then-count-eq0 : goal.returns-then-count-eq0
 returns-then-count-eq0 c =
     let d = (goal.at.returns-then-count-eq0 c).After-period_days-count in
     let a = c.args in
-    let closed = no_day_lem a.plan.now.shape a.info.now.year.first (length (days d)) a.tick a.plan.now.clock a.rule.now.bysetpos (sym (told_count d) ∙ c.if-count-eq0.true) in record {
+    let none : length (days d) ≡ 0 = sym (told_count d) ∙ c.if-count-eq0.true in
+    let closed = no_day_lem a.plan.now.shape a.info.now.year.first (length (days d)) a.tick a.plan.now.clock a.rule.now.bysetpos none in record {
       period = c.none_kept-opened.ensures ∙ sym closed.0;
       days = told_places d;
       places = sym (closed.1 a.opened.now.places);

@@ -45,4 +45,5 @@ returns c =
     let here = goal.at.returns c in
     let u = c in
     let a = u.args in
-    rw (lt-ltb a.tick (ticks a.freq) (within_ticks a.freq a.tick (omega (arith, second_is here.After-unit_of, c.if-second-ge86400.false)))) (second_is here.After-unit_of)
+    rw (lt-ltb a.tick (ticks a.freq) (within_ticks a.freq a.tick (omega (arith, second_is here.After-unit_of, c.if-second-ge86400.false))))
+    (second_is here.After-unit_of)
