@@ -1,15 +1,18 @@
--- A letter's capital, by the byte's range.
+-- A letter's capital is the library's.
 -- Assumes nothing.
 use Prim.Native.Nat.{ℕ, ◌-◌, ◌≤◌, ◌<◌}
-use mathlib.Core.Path.{◌≡◌}
-use borrow.Author.Tests.{le-leb, lt-leb}
+use native.Mathlib.Omega.{arith}
+use mathlib.Core.Path.{◌≡◌, refl}
+use mathlib.Core.Bool.{Bool, true, false}
+use lib.Dec.{leb}
+use borrow.Author.Tests.{le-leb, lt-leb, leb-true, leb-false, lt-ltb, le-ltb}
+use Rattle.std.specs.Char.{to_ascii_uppercase}
 use Rattle.symbols.specs.Languages.{upper}
 
-pub below_letters : (b : ℕ) → b < 97 → b ≡ upper b
-below_letters b h = simp (lt-leb 97 b h)
-
-pub above_letters : (b : ℕ) → 97 ≤ b → 122 < b → b ≡ upper b
-above_letters b h k = simp (le-leb 97 b h, lt-leb b 122 k)
-
-pub small_letter : (b : ℕ) → 97 ≤ b → b ≤ 122 → b - 32 ≡ upper b
-small_letter b h k = simp (le-leb 97 b h, le-leb b 122 k)
+pub capital_is : (b : ℕ) → to_ascii_uppercase b ≡ upper b
+capital_is b = go (leb 97 b) refl (leb b 122) refl
+  where
+    go : (x : Bool) → leb 97 b ≡ x → (y : Bool) → leb b 122 ≡ y → to_ascii_uppercase b ≡ upper b
+    go false e y f = simp (e, lt-ltb b 97 (leb-false 97 b e))
+    go true e true f = simp (e, f, le-ltb b 97 (leb-true 97 b e), lt-ltb b 123 (let h : b ≤ 122 = leb-true b 122 f in omega arith))
+    go true e false f = simp (e, f, le-ltb b 97 (leb-true 97 b e), le-ltb b 123 (let h : 122 < b = leb-false b 122 f in omega arith))

@@ -14,35 +14,15 @@ ghost use Rattle.spelling.specs.Offers.{InCommon, Offered, Chosen};
 use recur::Symbol;
 use symbols::Best;
 
-// A letter's capital; every other byte is its own.
-fn capital(byte: u8) -> u8
-    ensures { result ≡ upper byte }
-{
-    if byte < 97 {
-        return byte;
-    }
-    if 122 < byte {
-        return byte;
-    }
-    byte - 32
-}
-
-// How many bytes of a word begin the text from a place on.
+// How many bytes of a word begin the text from a place on, in either letter case.
 fn in_common(word: &[u8], text: &[u8], at: usize) -> usize
     requires { at ≤ length text.now }
     ensures { InCommon word.now text.now at result }
 {
-    let mut count = 0;
-    while count < word.len() {
-        if text.len() - at <= count {
-            return count;
-        }
-        if capital(text[at + count]) != word[count] {
-            return count;
-        }
-        count += 1;
-    }
-    count
+    word.iter()
+        .zip(&text[at..])
+        .take_while(|(letter, byte)| byte.to_ascii_uppercase() == **letter)
+        .count()
 }
 
 // The best match with a word more, unless that is used up: a place above 0 says so. Once a word is found no other is asked.

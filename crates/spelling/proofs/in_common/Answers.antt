@@ -1,45 +1,30 @@
--- `spelling::in_common` meets its contract: what word and text have in common is what is counted, with what their rests have in common.
+-- `spelling::in_common` meets its contract.
 -- Assumes nothing.
-use mathlib.Core.Path.{sym, ◌∙◌}
+use Rattle.std.proofs.Common.{rules, tests}
+use Prim.Native.Nat.{ℕ, ◌+◌, ◌-◌, ◌≤◌}
 use native.Mathlib.Omega.{arith}
-use Rattle.spelling.proofs.CommonLaws.{counted_none, counted_on, counted_word, counted_text, counted_differ}
+use mathlib.Core.Path.{◌≡◌, sym, ap, ◌∙◌}
+use lib.ListN.{length, take, drop, length-drop}
+use lib.Seq.{take-length}
+use Rattle.std.specs.List.{zip}
+use Rattle.std.proofs.lemmas.Iterator.{YieldsList-from_slice, YieldsList-from_zip}
+use Rattle.std.proofs.lemmas.Iterator.Consumers.{count_from_yields_List}
+use Rattle.std.proofs.lemmas.Iterator.Search.{YieldsList-from_take_while}
+use Rattle.std.proofs.lemmas.List.Folds.{length-prefix_len}
+use Rattle.symbols.specs.Readers.{common}
+use Rattle.spelling.proofs.CommonLaws.{alike, as_common, common_within}
 use Rattle.spelling.proofs.in_common.Goals as goal
-
-pub loop-count-init : goal.loop-count-init
-loop-count-init c = (omega arith, omega arith, counted_none _ _ _)
-
-pub overflow_sub-text : goal.overflow_sub-text
-overflow_sub-text c = omega arith
-
-pub returns-then-text-at : goal.returns-then-text-at
-returns-then-text-at c =
-    record { is = sym (c.loop-count.invariant.2 ∙ counted_text _ _ _ _ (omega arith)); within = omega arith }
-
-pub overflow_add-at : goal.overflow_add-at
-overflow_add-at c = omega arith
-
-pub bounds-text-at : goal.bounds-text-at
-bounds-text-at c = omega arith
-
-pub bounds-word-count : goal.bounds-word-count
-bounds-word-count c = omega arith
-
-pub returns-then-capital-word : goal.returns-then-capital-word
-returns-then-capital-word c =
-    let e = c.capital.ensures in
-    record { is = sym (c.loop-count.invariant.2 ∙ counted_differ _ _ _ _ (omega arith) (omega arith) (λ s. c.if-capital-word.true (e ∙ s))); within = omega arith }
-
-pub overflow_add-count : goal.overflow_add-count
-overflow_add-count c = omega arith
-
-pub loop-count-smaller : goal.loop-count-smaller
-loop-count-smaller c = omega arith
-
-pub loop-count-preserved : goal.loop-count-preserved
-loop-count-preserved c =
-    let e = c.capital.ensures in
-    (omega arith, omega arith, c.loop-count.invariant.2 ∙ counted_on _ _ _ _ _ (omega arith) (omega arith) (omega arith) (sym e ∙ c.if-capital-word.false))
 
 pub returns : goal.returns
 returns c =
-    record { is = sym (c.loop-count.invariant.2 ∙ counted_word _ _ _ _ (omega arith)); within = omega arith }
+    let w = c.args.word.now in
+    let t = drop c.args.at c.args.text.now in
+    let l : length t ≡ length c.args.text.now - c.args.at = length-drop c.args.at c.args.text.now in
+    let rest : c.take_while.result.iter.b.rest.now ≡ t =
+    ap (λ z. z.b.rest.now) c.take_while.ensures.source ∙ c.zip.ensures.second.0 ∙ ap (λ (n : ℕ). take n t) (sym l) ∙ take-length t in
+    let n : c.count.result ≡ common w t =
+    count_from_yields_List c.take_while.result _ c.count.ensures.ran
+    (YieldsList-from_take_while _ alike (YieldsList-from_zip (YieldsList-from_slice w (cc)) (YieldsList-from_slice t rest))
+    c.take_while.ensures.closure c.take_while.ensures.done (λ x b q k. search (rules, tests)))
+    ∙ length-prefix_len alike (zip w t) ∙ as_common w t in
+    record { is = n; within = omega (arith, common_within w t) }
