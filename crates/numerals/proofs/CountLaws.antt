@@ -1,9 +1,9 @@
 -- Which digit may come of a number up to a highest, of one to three digits and of a field, and what is then kept.
 -- Assumes nothing.
 use Rattle.std.specs.Prelude.{Result, IfOk}
-use Prim.Native.Nat.{ℕ, zero, suc, ◌+◌, ◌-◌, ◌*◌, ◌≤◌, ◌<◌}
+use Prim.Native.Nat.{ℕ, zero, suc, ◌+◌, ◌-◌, ◌*◌, ◌^◌, ◌≤◌, ◌<◌}
 use native.Mathlib.Nat.{mul-le-mul}
-use native.Mathlib.Numerals.{add-one}
+use native.Mathlib.Numerals.{add-one, unary_clauses}
 use native.Mathlib.Omega.{arith}
 use mathlib.Core.Path.{◌≡◌, refl, sym, ap, ◌∙◌}
 use mathlib.Core.Bool.{Bool, true, false, ◌&&◌, ◌||◌, or-true, or-false}
@@ -20,6 +20,11 @@ use Rattle.numerals.proofs.TestLaws.{test_is}
 use Rattle.numerals.proofs.DigitLaws.{Taken}
 
 -- ---- powers of ten
+
+pub ten_is : (n : ℕ) → 10 ^ n ≡ ten_to n
+unfolding ten_to
+ten_is zero = refl
+ten_is (suc n) = let h : 10 ^ n ≡ ten_to n = ten_is n in simp unary_clauses (omega arith)
 
 pub ten_more : (n : ℕ) → ten_to (n + 1) ≡ ten_to n * 10
 unfolding ten_to

@@ -5,7 +5,7 @@ ghost use Rattle.std.specs.Prelude.{◌≡◌, [], ◌+◌, ◌-◌, ◌*◌, �
 ghost use Rattle.symbols.specs.Languages.{is_digit};
 ghost use Rattle.symbols.specs.Takes.{took};
 ghost use Rattle.symbols.specs.Readers.{may_take, digits, head_is};
-ghost use Rattle.symbols.specs.Counts.{up_to, three, field, ten_to};
+ghost use Rattle.symbols.specs.Counts.{up_to, three, field};
 ghost use Rattle.recur.specs.Grammar.{below};
 ghost use Rattle.recur.specs.Reading.{signed_at, entry_at, nth_at, field_at};
 ghost use Rattle.recur.specs.Shown.{shown};
@@ -17,21 +17,14 @@ use recur::Symbol;
 pub fn is_at(text: &[u8], place: usize, byte: u8) -> bool
     ensures { result ≡ head_is byte (drop place text.now) }
 {
-    if text.len() <= place {
-        return false;
-    }
-    text[place] == byte
+    text.get(place) == Some(&byte)
 }
 
 // Whether a digit stands at a place.
 fn is_digit_at(text: &[u8], place: usize) -> bool
     ensures { result ≡ passes is_digit (drop place text.now) }
 {
-    if text.len() <= place {
-        return false;
-    }
-    let byte = text[place];
-    (48 <= byte) & (byte <= 57)
+    place < text.len() && text[place].is_ascii_digit()
 }
 
 // A number with the digit at a place behind its own.
@@ -109,19 +102,6 @@ fn three_at(text: &[u8], at: usize, low: u64) -> Result<Symbol<u64>, usize>
     reached((0 < place - at) & (low <= value), place, value)
 }
 
-// 10 to a small number.
-fn ten_to(left: usize) -> u64
-    requires { left ≤ 3 }
-    ensures { result ≡ ten_to left }
-{
-    match left {
-        0 => 1,
-        1 => 10,
-        2 => 100,
-        _ => 1000,
-    }
-}
-
 // Whether a digit stands at a place that may be the next of so many: with it, and whatever digits behind it, some number of the range is left.
 fn field_goes_on(
     text: &[u8],
@@ -141,7 +121,7 @@ fn field_goes_on(
     if wide <= count {
         return false;
     }
-    let unit = ten_to(wide - (count + 1));
+    let unit = 10u64.pow((wide - (count + 1)) as u32);
     let lowest = with_digit(text, place, value) * unit;
     if high < lowest {
         return false;

@@ -1,13 +1,15 @@
 -- `numerals::is_digit_at` meets its contract.
 -- Assumes nothing.
-use Rattle.std.proofs.Common.{rules}
-use mathlib.Core.Path.{sym}
+use native.Mathlib.Omega.{arith}
+use mathlib.Core.Path.{sym, ◌∙◌}
+use lib.ListN.{length}
+use borrow.Author.Tests.{le-ltb}
 use Rattle.symbols.specs.Languages.{is_digit}
 use Rattle.numerals.proofs.ByteLaws.{passes_at, passes_none}
 use Rattle.numerals.proofs.is_digit_at.Goals as goal
 
-pub returns-then-text-place : goal.returns-then-text-place
-returns-then-text-place c = let a = c.args in sym (passes_none is_digit a.text.now a.place c.if-text-place.true)
+pub returns-then-place-text : goal.returns-then-place-text
+returns-then-place-text c = c.is_ascii_digit.ensures.value ∙ sym (passes_at is_digit c.args.text.now c.args.place (omega arith))
 
-pub returns : goal.returns
-returns c = let a = c.args in sym (passes_at is_digit a.text.now a.place (search rules))
+pub returns-else-place-text : goal.returns-else-place-text
+returns-else-place-text c = le-ltb c.args.place (length c.args.text.now) (omega arith) ∙ sym (passes_none is_digit c.args.text.now c.args.place (omega arith))
