@@ -1,47 +1,80 @@
 // The answer of a line.
-use crate::{alike, chain, parts};
-use rule::rrule::Rule;
-use words::rows;
+use crate::chain::{Chain, Cut};
+use crate::{alike, chain};
+use basics::rrule::fresh;
+use machine::Cursor;
+use output::Out;
+use rule::rrule::{Refusal, Rule};
+use shown::{BLANK, ShownRecord, ShownRefusal};
+use words::Line;
 
-// Writes the answer of a line without its end, and answers how many bytes wait to be written.
-pub(crate) fn write_line(known: bool, line: &[u8], out: &mut [u8], waiting: usize) -> usize {
-    if line.len() == 0 {
-        return waiting;
+// Writes the answer of a line without its end.
+pub(crate) fn write_line(text: &[u8], known: bool, out: &mut Out) {
+    if text.is_empty() {
+        return;
     }
-    let row = words::row_of(known, line);
-    let bad = rows::number_at(&row, rows::BAD);
-    if bad < rows::NONE {
-        return forms::put_form(forms::BAD, [bad as u64, 0, 0, 0, 0, 0, 0], out, waiting);
+    match words::read(text, known) {
+        Ok(line) => write_answer(&line, known, out),
+        Err(bad) => out.put(bad),
     }
-    write_row(&row, out, waiting)
 }
 
-fn write_row(row: &[usize], out: &mut [u8], waiting: usize) -> usize {
-    let checked = asked::checked_in(row);
-    let verdict = checked.verdict;
-    let refused = shown::verdict_number(verdict);
-    if parts::is_shown(row) {
-        return shown::write_record(refused, checked.rule, out, waiting);
+fn write_answer(line: &Line, known: bool, out: &mut Out) {
+    let checked = asked::checked_in(line);
+    if line.is_shown {
+        return write_checked(checked, out);
     }
-    if 0 < refused {
-        return shown::write_verdict(refused, out, waiting);
+    match checked {
+        Ok(rule) => write_run(&rule, line, known, out),
+        Err(refusal) => out.put(ShownRefusal(refusal)),
     }
-    write_run(checked.rule, row, out, waiting)
+}
+
+// The record that the check answers: a blank one where it refuses.
+fn write_checked(checked: Result<Rule, Refusal>, out: &mut Out) {
+    match checked {
+        Ok(rule) => {
+            out.put("accepted");
+            out.put(ShownRecord(&rule));
+        }
+        Err(refusal) => {
+            out.put(ShownRefusal(refusal));
+            out.put(ShownRecord(&BLANK));
+        }
+    }
 }
 
 // Makes the calls of a line, and writes what they come to.
-fn write_run(rule: Rule, row: &[usize], out: &mut [u8], waiting: usize) -> usize {
-    let mut buffer = room_for_instants();
-    let first = parts::first_chain(rule, row, waiting);
-    let cut = parts::cut_in(row);
-    let last = chain::run(rule, first, cut, &mut buffer, out);
-    if !cut.known {
-        return last.waiting;
+fn write_run(rule: &Rule, line: &Line, known: bool, out: &mut Out) {
+    let mut buffer = [0; 4096];
+    let from = match line.cursor {
+        Some(cursor) => cursor,
+        None => fresh(rule),
+    };
+    let last = chain::run(rule, from, cut_of(line), known, &mut buffer, out);
+    if known {
+        hold_chains(rule, from, line.room, last, out);
     }
-    let astray = alike::is_astray(rule, first, cut.room, last, out);
-    alike::write_chains(astray, last, cut.room, out)
 }
 
-fn room_for_instants() -> [u64; 4096] {
-    [0; 4096]
+fn cut_of(line: &Line) -> Cut {
+    Cut {
+        room: line.room,
+        moves: line.moves,
+        calls: line.calls,
+        most: u64::MAX,
+        turns: false,
+    }
+}
+
+// Where a chain isn't answered alike, or the rest of the buffer is changed, the answer is that alone.
+fn hold_chains(rule: &Rule, from: Cursor, room: u32, last: Chain, out: &mut Out) {
+    let chained = alike::is_chained(room, last);
+    let alike = !chained || alike::are_alike(rule, from, room, out.waiting.as_slice());
+    if !last.is_kept || !alike {
+        out.waiting.clear();
+        out.put("astray");
+    } else if chained {
+        out.put(" chains=36");
+    }
 }

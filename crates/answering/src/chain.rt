@@ -1,175 +1,158 @@
 // A chain of calls, each from the cursor that the one before left.
-ghost use Rattle.std.specs.Prelude.{◌≡◌, ◌≤◌, length, take};
-
-use crate::{parts, stop};
+use crate::stop::ShownStop;
 use listing::rrule_iter;
-use machine::{Answer, Cursor};
+use machine::{Answer, Cursor, Stop};
+use output::Out;
 use rule::rrule::Rule;
+use shown::ShownCursor;
+use std::fmt;
 
 // How a chain is cut: the room and the budget of each call, how many calls there are at most, and how many instants. Where it is in turns,
-// 0 and 1 in turn stand for a room or a budget of 0. And whether the answers are known.
+// 0 and 1 in turn stand for a room or a budget of 0.
 #[derive(Clone, Copy)]
-pub struct Cut {
-    pub known: bool,
-    pub room: usize,
+pub(crate) struct Cut {
+    pub room: u32,
     pub moves: u32,
     pub calls: u32,
     pub most: u64,
     pub turns: bool,
 }
 
-// What a chain has come to: how its last call stopped, the cursor, the sums of moves and handed out, whether the rest of the buffer
-// was kept, and the bytes that wait to be written. The stop is a number (stop::stop_number), and the state the place of its word among
-// those of forms.
-#[derive(Clone, Copy)]
-pub struct Chain {
-    pub stop: u64,
-    pub state: u64,
-    pub k: u64,
-    pub place: u32,
-    pub number: u64,
-    pub moves: u64,
-    pub handed: u64,
-    pub kept: bool,
-    pub waiting: usize,
+impl Cut {
+    fn room_at(self, turn: u32, handed: u64) -> u64 {
+        let left = self.most.saturating_sub(handed);
+        u64::from(self.in_turn(self.room, turn)).min(left)
+    }
+
+    fn budget_at(self, turn: u32) -> u32 {
+        self.in_turn(self.moves, turn)
+    }
+
+    fn in_turn(self, number: u32, turn: u32) -> u32 {
+        if self.turns && number == 0 {
+            turn % 2
+        } else {
+            number
+        }
+    }
 }
 
-// Makes the calls, and writes what they hand out and how they end.
-pub(crate) fn run(rule: Rule, first: Chain, cut: Cut, buffer: &mut [u64], out: &mut [u8]) -> Chain {
-    let mut last = make_calls(rule, first, cut, buffer, out);
-    let end = stop::write_stop(cut.known, last, out);
-    last.waiting = end;
+// What a chain has come to: how its last call stopped, the cursor, the sums of moves and handed out, and whether the rest of the buffer
+// was kept.
+#[derive(Clone, Copy)]
+pub(crate) struct Chain {
+    pub stop: Stop,
+    pub cursor: Cursor,
+    pub moves: u64,
+    pub handed: u64,
+    pub is_kept: bool,
+}
+
+impl Chain {
+    fn from_cursor(cursor: Cursor) -> Self {
+        Chain {
+            stop: Stop::More,
+            cursor,
+            moves: 0,
+            handed: 0,
+            is_kept: true,
+        }
+    }
+
+    // Only behind More and Limited another call follows.
+    fn is_over(self) -> bool {
+        match self.stop {
+            Stop::More => false,
+            Stop::Limited => false,
+            Stop::Ended => true,
+            Stop::Refused(_) => true,
+        }
+    }
+
+    fn call(self, rule: &Rule, budget: u32, buffer: &mut [u64], out: &mut Out) -> Self {
+        fill(buffer);
+        let answer = rrule_iter::run(rule, self.cursor, buffer, budget);
+        put_instants(buffer, answer.handed, out);
+        self.with(answer, is_kept(buffer, answer.handed))
+    }
+
+    fn with(self, answer: Answer, is_kept: bool) -> Self {
+        Chain {
+            stop: answer.stop,
+            cursor: answer.cursor,
+            moves: self.moves.wrapping_add(u64::from(answer.moves)),
+            handed: self.handed.wrapping_add(answer.handed as u64),
+            is_kept: self.is_kept && is_kept,
+        }
+    }
+}
+
+impl fmt::Display for Chain {
+    fn fmt<W: fmt::Write>(&self, f: &mut fmt::Formatter<W>) -> fmt::Result {
+        let rest = if self.is_kept { "kept" } else { "changed" };
+        write!(f, " moves={} handed={}", self.moves, self.handed)?;
+        write!(f, " {} rest={rest}", ShownCursor(self.cursor))
+    }
+}
+
+// Makes the calls, and writes what they hand out and how they end. Of a refused run the rest is written where the answers are known.
+pub(crate) fn run(
+    rule: &Rule,
+    from: Cursor,
+    cut: Cut,
+    known: bool,
+    buffer: &mut [u64],
+    out: &mut Out,
+) -> Chain {
+    let last = make_calls(rule, from, cut, buffer, out);
+    out.put(ShownStop(last.stop));
+    if known || !matches!(last.stop, Stop::Refused(_)) {
+        out.put(last);
+    }
     last
 }
 
-fn make_calls(rule: Rule, first: Chain, cut: Cut, buffer: &mut [u64], out: &mut [u8]) -> Chain {
-    let mut chain = first;
-    for turn in 0u32..cut.calls {
-        chain = cut_call(rule, chain, cut, turn, buffer, out);
-        if is_over(chain.stop) | (cut.most <= chain.handed) {
-            return chain;
+// Each call has the part of the buffer that its room asks for.
+fn make_calls(rule: &Rule, from: Cursor, cut: Cut, buffer: &mut [u64], out: &mut Out) -> Chain {
+    let mut chain = Chain::from_cursor(from);
+    for turn in 0..cut.calls {
+        let room = room_in(buffer, cut.room_at(turn, chain.handed));
+        chain = chain.call(rule, cut.budget_at(turn), room, out);
+        if chain.is_over() || cut.most <= chain.handed {
+            break;
         }
     }
     chain
 }
 
-// Only behind More and Limited another call follows.
-fn is_over(stop: u64) -> bool {
-    match stop {
-        1 => false,
-        2 => false,
-        _ => true,
-    }
-}
-
-// A call in the part of the buffer that its room asks for.
-fn cut_call(
-    rule: Rule,
-    before: Chain,
-    cut: Cut,
-    turn: u32,
-    buffer: &mut [u64],
-    out: &mut [u8],
-) -> Chain {
-    let end = within(room_of(cut, turn, before.handed), buffer);
-    call(rule, before, budget_of(cut, turn), &mut buffer[..end], out)
-}
-
-fn room_of(cut: Cut, turn: u32, handed: u64) -> usize {
-    let left = std::num::wrapping_sub_u64(cut.most, handed) as usize;
-    let room = in_turn(cut.room, turn, cut.turns);
-    if room < left { room } else { left }
-}
-
-fn budget_of(cut: Cut, turn: u32) -> u32 {
-    (in_turn(cut.moves as usize, turn, cut.turns) % 4294967296) as u32
-}
-
-fn in_turn(number: usize, turn: u32, turns: bool) -> usize {
-    if turns & (number == 0) {
-        (turn % 2) as usize
-    } else {
-        number
-    }
-}
-
-// The part of a buffer that so much room asks for.
-fn within(room: usize, buffer: &[u64]) -> usize
-    ensures { (result ≤ length buffer.now) × (result ≡ length (take result buffer.now)) }
-{
-    if room < buffer.len() {
-        room
-    } else {
-        buffer.len()
-    }
-}
-
-fn call(rule: Rule, before: Chain, budget: u32, buffer: &mut [u64], out: &mut [u8]) -> Chain {
-    let answer = call_filled(rule, cursor_of(before), buffer, budget);
-    let waiting = put_instants(buffer, answer.handed, out, before.waiting);
-    let kept = is_kept(buffer, answer.handed);
-    added(before, answer, kept, waiting)
-}
-
-fn cursor_of(chain: Chain) -> Cursor {
-    let state = parts::state_of(chain.state);
-    Cursor {
-        state,
-        k: chain.k,
-        place: chain.place,
-        number: chain.number,
-    }
-}
-
-fn call_filled(rule: Rule, from: Cursor, buffer: &mut [u64], budget: u32) -> Answer {
-    fill(buffer);
-    rrule_iter::run(&rule, from, buffer, budget)
-}
-
-fn added(before: Chain, answer: Answer, kept: bool, waiting: usize) -> Chain {
-    let stop = answer.stop;
-    let cursor = answer.cursor;
-    let state = cursor.state;
-    Chain {
-        stop: stop::stop_number(stop),
-        state: shown::state_word(state),
-        k: cursor.k,
-        place: cursor.place,
-        number: cursor.number,
-        moves: std::num::wrapping_add_u64(before.moves, answer.moves as u64),
-        handed: std::num::wrapping_add_u64(before.handed, answer.handed as u64),
-        kept: before.kept & kept,
-        waiting,
-    }
+fn room_in(buffer: &mut [u64], room: u64) -> &mut [u64] {
+    let end = buffer.len().min(room as usize);
+    &mut buffer[..end]
 }
 
 // What slot i holds before a call.
 fn filler(i: usize) -> u64 {
-    std::num::wrapping_sub_u64(9223372036854775807, i as u64)
+    (i64::MAX as u64).wrapping_sub(i as u64)
 }
 
 fn fill(buffer: &mut [u64]) {
-    for i in 0..buffer.len() {
-        buffer[i] = filler(i);
+    for (i, slot) in buffer.iter_mut().enumerate() {
+        *slot = filler(i);
     }
 }
 
 // Whether the slots past those handed out hold what they held.
 fn is_kept(buffer: &[u64], handed: usize) -> bool {
-    let mut kept = handed <= buffer.len();
-    for i in 0..buffer.len() {
-        kept = kept & ((i < handed) | (buffer[i] == filler(i)));
-    }
-    kept
+    handed <= buffer.len()
+        && buffer
+            .iter()
+            .enumerate()
+            .skip(handed)
+            .all(|(i, slot)| *slot == filler(i))
 }
 
-fn put_instants(buffer: &[u64], handed: usize, out: &mut [u8], waiting: usize) -> usize {
-    let mut now = waiting;
-    for i in 0..buffer.len() {
-        if handed <= i {
-            return now;
-        }
-        now = forms::put_form(forms::INSTANT, [buffer[i], 0, 0, 0, 0, 0, 0], out, now);
+fn put_instants(buffer: &[u64], handed: usize, out: &mut Out) {
+    for instant in buffer.iter().take(handed) {
+        out.put(format_args!("{instant} "));
     }
-    now
 }

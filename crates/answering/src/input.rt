@@ -1,102 +1,93 @@
 // Reading standard input, a line at a time.
-use crate::compare::Places;
-use crate::{answer, compare};
-
-pub(crate) fn read(known: bool) {
-    let mut piece = io::large_buffer();
-    let mut line = room_for_line();
-    let mut out = io::large_buffer();
-    let first = compare::nothing_yet(known, false);
-    let last = read_all(&mut piece, &mut line, &mut out, first);
-    forms::flush(&out, last.waiting);
-    compare::write_tally(last);
-}
-
-// One byte more than a line may have.
-fn room_for_line() -> [u8; 65537] {
-    [0; 65537]
-}
+use crate::answer::write_line;
+use crate::compare::Tally;
+use arrayvec::ArrayVec;
+use output::Out;
 
 // Reads to the end. A proved loop has to end, and nothing says that an input does: so the turns are
 // counted, up to a number that no run uses up.
-fn read_all(piece: &mut [u8], line: &mut [u8], out: &mut [u8], first: Places) -> Places {
-    let mut places = first;
-    for _ in 0u64..18446744073709551615 {
-        places = read_some(piece, line, out, places);
-        if places.over {
-            return places;
+pub(crate) fn read(known: bool) {
+    let mut piece = io::large_buffer();
+    let mut reader = Reader::new(known);
+    for _ in 0..u64::MAX {
+        let count = io::read_full(0, &mut piece);
+        if count == 0 {
+            break;
+        }
+        reader.take(&piece[..count]);
+    }
+    reader.end();
+}
+
+// The line so far, of which one byte more is kept than it may have, what waits to be written, and what was compared in a group, once it
+// has begun.
+#[derive(Drop)]
+struct Reader {
+    known: bool,
+    line: ArrayVec<u8, 65537>,
+    out: Out,
+    group: Option<Tally>,
+}
+
+impl Reader {
+    fn new(known: bool) -> Self {
+        Reader {
+            known,
+            line: ArrayVec::new(),
+            out: Out::new(),
+            group: None,
         }
     }
-    places
-}
 
-// Reads a whole piece, or up to the input's end.
-fn read_some(piece: &mut [u8], line: &mut [u8], out: &mut [u8], places: Places) -> Places {
-    let count = io::read_full(0, piece);
-    if count == 0 {
-        return end_input(line, out, places);
+    fn take(&mut self, piece: &[u8]) {
+        for byte in piece {
+            if *byte == b'\n' {
+                self.end_line();
+            } else {
+                let _ = self.line.try_push(*byte);
+            }
+        }
     }
-    take_bytes(&piece[0..count], line, out, places)
-}
 
-// At the end of the input a last line without its newline counts.
-fn end_input(line: &[u8], out: &mut [u8], places: Places) -> Places {
-    if places.used == 0 {
-        return over(places);
+    fn end_line(&mut self) {
+        if self.known {
+            self.compare_line();
+        } else {
+            write_line(self.line.as_slice(), false, &mut self.out);
+            self.out.push(b'\n');
+        }
+        self.line.clear();
     }
-    over(end_line(line, out, places))
-}
 
-fn over(places: Places) -> Places {
-    let mut last = places;
-    last.over = true;
-    last
-}
-
-fn take_bytes(piece: &[u8], line: &mut [u8], out: &mut [u8], places: Places) -> Places {
-    let mut next = places;
-    for i in 0..piece.len() {
-        next = take_byte(piece[i], line, out, next);
+    // A heading ends a group and begins another; any other line has a rule, and with the bar its answer.
+    fn compare_line(&mut self) {
+        let line = self.line.as_slice();
+        if line.starts_with(b"#") {
+            self.end_group();
+            io::write_all(1, self.line.as_slice());
+            io::write_all(1, b"\n");
+            self.group = Some(Tally::new());
+        } else if !line.is_empty() {
+            let group = self.group.unwrap_or(Tally::new());
+            self.group = Some(group.compare(line, &mut self.out));
+        }
     }
-    next
-}
 
-// Of a line that is too long only so much is kept that this can be seen.
-fn take_byte(byte: u8, line: &mut [u8], out: &mut [u8], places: Places) -> Places {
-    if byte == b'\n' {
-        return end_line(line, out, places);
+    fn end_group(&self) {
+        if let Some(group) = self.group {
+            group.write();
+        }
     }
-    let used = put_behind(byte, line, places.used);
-    let mut next = places;
-    next.used = used;
-    next
-}
 
-fn put_behind(byte: u8, line: &mut [u8], used: usize) -> usize {
-    if line.len() <= used {
-        return used;
+    // At the end of the input a last line without its newline counts.
+    fn end(&mut self) {
+        if !self.line.is_empty() {
+            self.end_line();
+        }
+        if self.known {
+            self.end_group();
+        } else {
+            self.out.flush();
+        }
     }
-    line[used] = byte;
-    used + 1
-}
-
-fn end_line(line: &[u8], out: &mut [u8], places: Places) -> Places {
-    let used = places.used;
-    if line.len() < used {
-        return places;
-    }
-    let mut next = answer_line(&line[0..used], out, places);
-    next.used = 0;
-    next
-}
-
-fn answer_line(line: &[u8], out: &mut [u8], places: Places) -> Places {
-    if places.known {
-        return compare::take_line(line, out, places);
-    }
-    let written = answer::write_line(false, line, out, places.waiting);
-    let end = forms::put_form(forms::NEWLINE, [0; 7], out, written);
-    let mut next = places;
-    next.waiting = end;
-    next
 }

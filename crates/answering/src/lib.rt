@@ -7,7 +7,6 @@ mod answer;
 mod chain;
 mod compare;
 mod input;
-mod parts;
 mod stop;
 
 ghost use Rattle.std.specs.Prelude.{◌≡◌};

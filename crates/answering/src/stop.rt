@@ -1,49 +1,21 @@
 // How a chain of calls ended.
-use crate::chain::Chain;
-use basics::faults;
 use machine::Stop;
+use std::fmt;
 
-// Of a refused run the rest is written where the answers are known.
-pub(crate) fn write_stop(known: bool, last: Chain, out: &mut [u8]) -> usize {
-    let begun = write_begin(last.stop, out, last.waiting);
-    if !known & (2 < last.stop) {
-        return begun;
+// How the last call stopped.
+#[derive(Clone, Copy)]
+pub(crate) struct ShownStop(pub Stop);
+
+impl fmt::Display for ShownStop {
+    fn fmt<W: fmt::Write>(&self, f: &mut fmt::Formatter<W>) -> fmt::Result {
+        match self.0 {
+            Stop::Ended => write!(f, ": ended"),
+            Stop::More => write!(f, ": more"),
+            Stop::Limited => write!(f, ": limited"),
+            Stop::Refused(fault) => {
+                let number = fault as u8;
+                write!(f, "refused {number}")
+            }
+        }
     }
-    write_end(last, out, begun)
-}
-
-// Below 3 it is the place of a word among those of forms.
-pub(crate) fn stop_number(stop: Stop) -> u64 {
-    match stop {
-        Stop::Ended => 0,
-        Stop::More => 1,
-        Stop::Limited => 2,
-        Stop::Refused(fault) => faults::fault_number(fault) as u64,
-    }
-}
-
-fn write_begin(number: u64, out: &mut [u8], waiting: usize) -> usize {
-    let form = if number < 3 {
-        forms::STOP
-    } else {
-        forms::REFUSED
-    };
-    forms::put_form(form, [number, 0, 0, 0, 0, 0, 0], out, waiting)
-}
-
-fn write_end(last: Chain, out: &mut [u8], begun: usize) -> usize {
-    let numbers = [
-        last.moves,
-        last.handed,
-        last.state,
-        last.k,
-        last.place as u64,
-        last.number,
-        kept_word(last.kept),
-    ];
-    forms::put_form(forms::REST, numbers, out, begun)
-}
-
-fn kept_word(kept: bool) -> u64 {
-    if kept { 9 } else { 10 }
 }

@@ -74,7 +74,7 @@ fn marked_pairs(ns: &[i16], ws: &[i16]) -> [bool; 749]
 }
 
 // The record as it is given, before filling in: the sets of the lists.
-fn given_rule(raw: &Unvalidated, start: u64) -> Rule
+pub fn given_rule(raw: &Unvalidated, start: u64) -> Rule
     ensures { result ≡ given (raw_of raw.now start) }
 {
     let lists = &raw.lists;

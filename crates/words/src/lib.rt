@@ -1,9 +1,14 @@
-// Reads the words of a line into one row of numbers (docs/LINES.md).
+// Reads the words of a line (docs/LINES.md).
 #![tactic(auto)]
 
-mod entries;
-pub mod rows;
-pub mod text;
+mod cursors;
+mod line;
+pub mod lists;
+mod manner;
+mod numbers;
+mod ranges;
+mod text;
 mod words;
 
-pub use words::row_of;
+pub use line::{BadWord, Line, read};
+pub use text::split_once;
