@@ -12,15 +12,15 @@ use basics::faults::fault_number;
 use basics::rrule::{fresh, refusal_number};
 use cursor_layout::cursor::{cursor_in, is_cursor_bytes, put_cursor, state_number};
 use listing::rrule_iter::run;
-use machine::Stop;
-use record_layout::record::{count_from, is_record_bytes, put_record, record_in, until_from};
+use machine::{Fault, Stop};
+use record_layout::record::{is_record_bytes, put_record, record_in};
 use records::is_record;
-use rule::rrule::{Rule, Verdict};
+use rule::rrule::{ByLists, Rule, Unvalidated};
 use validator::validate_rrule::check;
 
-const BAD_RECORD: u8 = 20;
+const BAD_RECORD: u8 = Fault::Record as u8;
 
-const BAD_CURSOR: u8 = 21;
+const BAD_CURSOR: u8 = Fault::Cursor as u8;
 
 // The check. COUNT is absent where `counted` is 0, and UNTIL where `bounded` is 0.
 #[unsafe(no_mangle)]
@@ -47,13 +47,7 @@ pub extern "C" fn yomaveludge_check(
 ) -> u8
     ensures { said result rulebytes.new ≡ check_says (raw freq interval (count_from counted count) (until_from bounded until) wkst start (raw_lists bymonth.now bymonthday.now byyearday.now byweekno.now bydayn.now bydayw.now byhour.now byminute.now bysecond.now bysetpos.now)) rulebytes.old }
 {
-    let checked = check(
-        freq,
-        interval,
-        count_from(counted, count),
-        until_from(bounded, until),
-        wkst,
-        start,
+    let lists = ByLists {
         bymonth,
         bymonthday,
         byyearday,
@@ -64,17 +58,24 @@ pub extern "C" fn yomaveludge_check(
         byminute,
         bysecond,
         bysetpos,
-    );
-    let verdict = checked.verdict;
-    match verdict {
-        Verdict::Refused(refusal) => return refusal_number(refusal),
-        Verdict::Accepted => {}
-    }
-    let rule = checked.rule;
-    if put_record(rule, rulebytes) {
-        0
-    } else {
-        BAD_RECORD
+    };
+    let given = Unvalidated {
+        freq,
+        interval,
+        count: (counted != 0).then_some(count),
+        until: (bounded != 0).then_some(until),
+        wkst,
+        lists,
+    };
+    match check(&given, start) {
+        Err(refusal) => refusal_number(refusal),
+        Ok(rule) => {
+            if put_record(&rule, rulebytes) {
+                0
+            } else {
+                BAD_RECORD
+            }
+        }
     }
 }
 
@@ -87,10 +88,10 @@ pub extern "C" fn yomaveludge_fresh(rulebytes: &[u8], cursorbytes: &mut [u8]) ->
         return BAD_RECORD;
     }
     let rule = record_in(rulebytes);
-    if !is_record(rule) {
+    if !is_record(&rule) {
         return BAD_RECORD;
     }
-    if put_cursor(fresh(rule), cursorbytes) {
+    if put_cursor(fresh(&rule), cursorbytes) {
         0
     } else {
         BAD_CURSOR
@@ -111,17 +112,12 @@ fn stop_number(stop: Stop) -> u8
 fn is_refused(stop: Stop) -> bool
     ensures { result ≡ is_refused stop }
 {
-    match stop {
-        Stop::More => false,
-        Stop::Limited => false,
-        Stop::Ended => false,
-        Stop::Refused(_) => true,
-    }
+    matches!(stop, Stop::Refused(_))
 }
 
 // The refusal where no cursor can be read: a bad record's number is the lower one.
-fn unreadable_number(rule: Rule) -> u8
-    ensures { result ≡ unreadable (yielded rule) }
+fn unreadable_number(rule: &Rule) -> u8
+    ensures { result ≡ unreadable (yielded rule.now) }
 {
     if is_record(rule) {
         BAD_CURSOR
@@ -151,7 +147,7 @@ pub extern "C" fn yomaveludge_run(
     }
     let rule = record_in(rulebytes);
     if !is_cursor_bytes(cursorbytes) {
-        return unreadable_number(rule);
+        return unreadable_number(&rule);
     }
     let cursor = cursor_in(cursorbytes);
     let answer = run(&rule, cursor, buffer, moves);
@@ -160,11 +156,9 @@ pub extern "C" fn yomaveludge_run(
     if is_refused(stop) {
         return number;
     }
-    let left = answer.cursor;
-    let state = left.state;
-    put_cursor(left, cursorbytes);
+    put_cursor(answer.cursor, cursorbytes);
     *made = answer.moves;
     *handed = answer.handed;
-    *cause = state_number(state);
+    *cause = state_number(answer.cursor.state);
     number
 }

@@ -14,30 +14,22 @@ returns-then-not-is_record_bytes c =
 
 pub returns-then-not-is_record : goal.returns-then-not-is_record
 returns-then-not-is_record c =
-    let read = c in
-    let a = read.args in
-    let held = record_is _ _ (sym read.is_record_bytes.ensures ∙ not-false _ read.if-not-is_record_bytes.false-raw) read.record_in-rule.ensures in
+    let a = c.args in
+    let held = record_is _ _ (sym c.is_record_bytes.ensures ∙ not-false _ c.if-not-is_record_bytes.false-raw) c.record_in-rule.ensures in
     fresh_bad_record a.rulebytes.now a.cursorbytes.now _ held (sym c.is_record.ensures ∙ not-true _ c.if-not-is_record.true-raw)
 
 pub returns-then-put_cursor : goal.returns-then-put_cursor
 returns-then-put_cursor c =
-    let put = c in
-    let made = put in
-    let judged = made in
-    let read = judged in
-    let a = read.args in
-    let held = record_is _ _ (sym read.is_record_bytes.ensures ∙ not-false _ read.if-not-is_record_bytes.false-raw) read.record_in-rule.ensures in
-    let good = sym judged.is_record.ensures ∙ not-false _ judged.if-not-is_record.false-raw in
-    let done = put_done 22 _ a.cursorbytes.now _ _ put.put_cursor.ensures c.if-put_cursor.true in
-    fresh_made a.rulebytes.now a.cursorbytes.now _ held _ _ good done.0 made.fresh.ensures done.1
+    let a = c.args in
+    let held = record_is _ _ (sym c.is_record_bytes.ensures ∙ not-false _ c.if-not-is_record_bytes.false-raw) c.record_in-rule.ensures in
+    let good = sym c.is_record.ensures ∙ not-false _ c.if-not-is_record.false-raw in
+    let done = put_done 22 _ a.cursorbytes.now _ _ c.put_cursor.ensures c.if-put_cursor.true in
+    fresh_made a.rulebytes.now a.cursorbytes.now _ held _ _ good done.0 c.fresh.ensures done.1
 
 pub returns-else-put_cursor : goal.returns-else-put_cursor
 returns-else-put_cursor c =
-    let put = c in
-    let judged = put in
-    let read = judged in
-    let a = read.args in
-    let held = record_is _ _ (sym read.is_record_bytes.ensures ∙ not-false _ read.if-not-is_record_bytes.false-raw) read.record_in-rule.ensures in
-    let good = sym judged.is_record.ensures ∙ not-false _ judged.if-not-is_record.false-raw in
-    let done = put_refused 22 _ a.cursorbytes.now _ _ put.put_cursor.ensures c.if-put_cursor.false in
+    let a = c.args in
+    let held = record_is _ _ (sym c.is_record_bytes.ensures ∙ not-false _ c.if-not-is_record_bytes.false-raw) c.record_in-rule.ensures in
+    let good = sym c.is_record.ensures ∙ not-false _ c.if-not-is_record.false-raw in
+    let done = put_refused 22 _ a.cursorbytes.now _ _ c.put_cursor.ensures c.if-put_cursor.false in
     fresh_length a.rulebytes.now a.cursorbytes.now _ held _ good done.0 done.1

@@ -15,38 +15,26 @@ returns-then-not-is_record_bytes c =
 
 pub returns-then-not-is_cursor_bytes : goal.returns-then-not-is_cursor_bytes
 returns-then-not-is_cursor_bytes c =
-    let tested = c in
-    let read = tested in
-    let a = read.args in
-    let held = record_is _ _ (sym read.is_record_bytes.ensures ∙ not-false _ read.if-not-is_record_bytes.false-raw) read.record_in-rule.ensures in
+    let a = c.args in
+    let held = record_is _ _ (sym c.is_record_bytes.ensures ∙ not-false _ c.if-not-is_record_bytes.false-raw) c.record_in-rule.ensures in
     run_no_cursor a.rulebytes.now a.cursorbytes.now a.buffer.now a.moves _ held
-    _ (sym tested.is_cursor_bytes.ensures ∙ not-true _ c.if-not-is_cursor_bytes.true-raw) c.unreadable_number.ensures
+    _ (sym c.is_cursor_bytes.ensures ∙ not-true _ c.if-not-is_cursor_bytes.true-raw) c.unreadable_number.ensures
 
 pub returns-then-is_refused : goal.returns-then-is_refused
 returns-then-is_refused c =
-    let stopped = c in
-    let ran = stopped in
-    let found = ran in
-    let read = found in
-    let a = read.args in
-    let held = record_is _ _ (sym read.is_record_bytes.ensures ∙ not-false _ read.if-not-is_record_bytes.false-raw) read.record_in-rule.ensures in
-    let taken = sym found.is_cursor_bytes.ensures ∙ not-false _ found.if-not-is_cursor_bytes.false-raw in
-    let from = cursor_is _ _ taken found.cursor_in-cursor.ensures in
-    run_refused a.rulebytes.now a.cursorbytes.now a.buffer.now a.moves _ held _ from _ _ ran.run-answer.ensures
-    _ stopped.stop_number-number.ensures (sym c.is_refused.ensures ∙ c.if-is_refused.true)
+    let a = c.args in
+    let held = record_is _ _ (sym c.is_record_bytes.ensures ∙ not-false _ c.if-not-is_record_bytes.false-raw) c.record_in-rule.ensures in
+    let taken = sym c.is_cursor_bytes.ensures ∙ not-false _ c.if-not-is_cursor_bytes.false-raw in
+    let from = cursor_is _ _ taken c.cursor_in-cursor.ensures in
+    run_refused a.rulebytes.now a.cursorbytes.now a.buffer.now a.moves _ held _ from _ _ c.run-answer.ensures
+    _ c.stop_number-number.ensures (sym c.is_refused.ensures ∙ c.if-is_refused.true)
 
 pub returns : goal.returns
 returns c =
-    let put = c in
-    let going = put in
-    let stopped = going in
-    let ran = stopped in
-    let found = ran in
-    let read = found in
-    let a = read.args in
-    let held = record_is _ _ (sym read.is_record_bytes.ensures ∙ not-false _ read.if-not-is_record_bytes.false-raw) read.record_in-rule.ensures in
-    let taken = sym found.is_cursor_bytes.ensures ∙ not-false _ found.if-not-is_cursor_bytes.false-raw in
-    let from = cursor_is _ _ taken found.cursor_in-cursor.ensures in
-    run_answers a.rulebytes.now a.cursorbytes.now a.buffer.now a.moves _ held _ from _ _ ran.run-answer.ensures
-    _ _ _ stopped.stop_number-number.ensures (sym going.is_refused.ensures ∙ going.if-is_refused.false)
-    (put_at 22 _ _ _ _ put.put_cursor.ensures (cursor_size _ taken)) c.state_number.ensures
+    let a = c.args in
+    let held = record_is _ _ (sym c.is_record_bytes.ensures ∙ not-false _ c.if-not-is_record_bytes.false-raw) c.record_in-rule.ensures in
+    let taken = sym c.is_cursor_bytes.ensures ∙ not-false _ c.if-not-is_cursor_bytes.false-raw in
+    let from = cursor_is _ _ taken c.cursor_in-cursor.ensures in
+    run_answers a.rulebytes.now a.cursorbytes.now a.buffer.now a.moves _ held _ from _ _ c.run-answer.ensures
+    _ _ _ c.stop_number-number.ensures (sym c.is_refused.ensures ∙ c.if-is_refused.false)
+    (put_at 22 _ _ _ _ c.put_cursor.ensures (cursor_size _ taken)) c.state_number.ensures

@@ -10,10 +10,8 @@ loop-flag-init c = (search rules, refl)
 
 pub loop-flag-preserved : goal.loop-flag-preserved
 loop-flag-preserved c =
-    let l = c in
-    (search rules, l.loop-flag.invariant.1 ∙ empty_next l.loop-flag.found l.args.flags.now l.loop-flag.flag-index (search rules))
+    (search rules, c.loop-flag.invariant.1 ∙ empty_next c.loop-flag.found c.args.flags.now c.loop-flag.flag-index (search rules))
 
 pub returns : goal.returns
 returns c =
-    let l = c in
-    sym (l.loop-flag.invariant.1 ∙ empty_done l.loop-flag.found l.args.flags.now l.loop-flag.flag-index (search rules))
+    sym (c.loop-flag.invariant.1 ∙ empty_done c.loop-flag.found c.args.flags.now c.loop-flag.flag-index (search rules))

@@ -31,5 +31,4 @@ overflow_add-result-2 c = omega (arith, at_most_one c.args.range)
 pub returns : goal.returns
 unfolding slot_at
 returns c =
-    let e = c in
-    rw (le-ltb _ _ e.if-up-lt32768.false, ne_eqb _ _ e.if-up-eq32768.false, le-leb _ _ e.if-range-above.false, c.middle_slots.ensures)
+    rw (le-ltb _ _ c.if-up-lt32768.false, ne_eqb _ _ c.if-up-eq32768.false, le-leb _ _ c.if-range-above.false, c.middle_slots.ensures)
