@@ -51,6 +51,7 @@ pub fn in_range(counter: Counter, limit: u64) -> Result<Counter, Cause>
 }
 
 // The number of the period that holds a second from 1970 to 9999.
+#[tactic(auto, unfolding(crate::specs::Counters::number_of))]
 fn number_of(freq: Frequency, wkst: u8, second: u64) -> u64
     requires { (62135596800 ≤ second) × (second < 315537897600) }
     ensures { result ≡ number_of freq wkst second }

@@ -1,4 +1,3 @@
 pub mod Days
 pub mod OneAnswer
 pub mod Searches
-pub mod Tests

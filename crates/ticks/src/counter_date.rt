@@ -49,6 +49,7 @@ fn tick_after(tick: u64, perday: u64, hop: u64) -> u64
 
 // Whether a tick passes, as far as the frequency fixes hour, minute and second. Of a second the minute is asked first: with BYMINUTE alone
 // that settles most ticks in one look.
+#[tactic(auto, unfolding(crate::specs::Ticks::tick_is_in))]
 fn tick_passes(freq: Frequency, tick: u64, clock: &[bool; 144]) -> bool
     requires { tick < ticks freq }
     ensures { result ≡ tick_is_in freq clock.now tick }

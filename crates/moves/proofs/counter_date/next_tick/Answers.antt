@@ -18,41 +18,32 @@ found : (c : In-Some)
     → let a = c.args in
     Hits a.freq a.step a.from.tick a.clock.now c.in-Some.hit
 found c =
-    let a = c in
-    hit_is _ _ _ _ (rw (← a.requires.perday_value.0) a.requires.k_bound.2) _ (sym c.in-Some.is ∙ c.find_tick.ensures)
+    hit_is _ _ _ _ (rw (← c.requires.perday_value.0) c.requires.k_bound.2) _ (sym c.in-Some.is ∙ c.find_tick.ensures)
 
-pub counter_ahead-requires : goal.counter_ahead-requires
-counter_ahead-requires c =
+pub counter_ahead-requires-clause-perday_bound : goal.counter_ahead-requires-clause-perday_bound
+counter_ahead-requires-clause-perday_bound c =
     let a = c.args in
     let h : Hit = c.in-Some.hit in
     let t : a.perday ≡ ticks a.freq = c.requires.perday_value.0 in
-    let most : ticks a.freq ≤ 86400 = ticks_fit a.freq in record {
-      k_bound = (omega arith, omega arith, omega arith);
-      perday_bound = (
-        omega arith,
-        omega arith,
-        omega (arith, (found c).few),
-        (found c).there ∙ ap (λ (x : ℕ). tick_on x a.step a.from.tick h.periods) (sym t),
-      );
-    }
+    let most : ticks a.freq ≤ 86400 = ticks_fit a.freq in
+    let hits = found c in
+    (omega arith, omega arith, omega (arith, hits.few), hits.there ∙ ap (λ (x : ℕ). tick_on x a.step a.from.tick h.periods) (sym t))
 
 pub returns-in-Some : goal.returns-in-Some
 returns-in-Some c =
-    let f = c in
-    let a = f.args in
-    let n : ℕ = f.in-Some.hit.periods in
+    let a = c.args in
+    let n : ℕ = c.in-Some.hit.periods in
     c.in_range.ensures
-    ∙ arrived a.freq 3652059 a.step n a.from _ f.requires.perday_value.1
-    (c.counter_ahead.ensures ∙ ap (λ (x : ℕ). ahead x a.step a.from n) f.requires.perday_value.0)
+    ∙ arrived a.freq 3652059 a.step n a.from _ c.requires.perday_value.1
+    (c.counter_ahead.ensures ∙ ap (λ (x : ℕ). ahead x a.step a.from n) c.requires.perday_value.0)
     ∙ ap (arrive a.freq a.step a.from) (sym (found (goal.at.returns-in-Some c).In-Some).first)
-    ∙ ap (λ (x : ℕ). arrive a.freq a.step a.from (first_tick a.freq a.step a.from.tick a.clock.now x 1)) (sym f.requires.perday_value.0)
+    ∙ ap (λ (x : ℕ). arrive a.freq a.step a.from (first_tick a.freq a.step a.from.tick a.clock.now x 1)) (sym c.requires.perday_value.0)
 
 pub returns-in-None : goal.returns-in-None
 returns-in-None c =
-    let s = c in
-    let a = s.args in
-    let t : a.perday ≡ ticks a.freq = s.requires.perday_value.0 in
-    let none = never_is _ _ _ _ (rw (← t) s.requires.k_bound.2) (sym c.in-None.is ∙ c.find_tick.ensures) in
+    let a = c.args in
+    let t : a.perday ≡ ticks a.freq = c.requires.perday_value.0 in
+    let none = never_is _ _ _ _ (rw (← t) c.requires.k_bound.2) (sym c.in-None.is ∙ c.find_tick.ensures) in
     not_arrived a.freq a.step a.from
     ∙ ap (arrive a.freq a.step a.from) (sym none)
     ∙ ap (λ (x : ℕ). arrive a.freq a.step a.from (first_tick a.freq a.step a.from.tick a.clock.now x 1)) (sym t)
