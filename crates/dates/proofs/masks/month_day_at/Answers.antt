@@ -1,7 +1,7 @@
 -- `dates::masks::month_day_at` meets its contract: its two tables are what the calendar says at each place, by one computed test each.
 -- Assumes nothing.
 use mathlib.Core.Path.{refl, ◌∙◌}
-use Rattle.calendar.specs.Calendar.{MonthDay, from_end, table_day}
+use Rattle.calendar.specs.Calendar.{MonthDay, table_day}
 use Rattle.dates.proofs.YearTables.{reads}
 use Rattle.dates.proofs.masks.month_day_at.Goals as goal
 

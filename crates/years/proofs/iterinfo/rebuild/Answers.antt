@@ -1,7 +1,7 @@
 -- `years::iterinfo::rebuild` meets its contract.
 -- Assumes nothing.
 use mathlib.Core.Path.{◌≡◌, refl, sym, ◌∙◌}
-use Rattle.calendar.specs.Calendar.{month_table, month_day_table, from_end_table}
+use Rattle.calendar.specs.Calendar.{month_table, month_day_table}
 use Rattle.weeks.specs.Weeks.{week_mask}
 use Rattle.nths.specs.Masks.{nth_mask}
 use Rattle.years.specs.Info.{no_table, no_mask, table_where, mask_where}
