@@ -1,6 +1,6 @@
 // The mask of the nth weekdays: for each day of a year, and for the seven days after it, whether BYDAY has an entry (n, weekday), n not 0,
 // that it passes.
-ghost use Rattle.std.specs.Prelude.{◌≡◌, true, false, ◌+◌, ◌-◌, ◌%◌, ◌≤◌, ◌<◌, length};
+ghost use Rattle.std.specs.Prelude.{◌≡◌, true, false, ◌+◌, ◌-◌, ◌%◌, ◌≤◌, ◌<◌};
 ghost use Rattle.calendar.specs.Calendar.{days_of, month_day_table, from_end_table};
 ghost use Rattle.rule.specs.Days.{nth_passes};
 ghost use Rattle.nths.specs.Masks.{nth_at, nth_mask, TellsEnds};
@@ -56,7 +56,7 @@ fn mark_days<F: Fn(usize) -> (usize, usize)>(
     ends: &F,
     mask: &mut [bool; 373],
 )
-    requires sizes { (weekday < 7) × (length mask.old ≡ 373) }
+    requires weekday { weekday < 7 }
     requires told { TellsEnds F.pre F.post ends.now inyear year }
     ensures { Marked (nth_at inyear year byday.now) year.first weekday (days_of year.long + 7) mask.old mask.new }
 {

@@ -1,5 +1,5 @@
 // A year as the day sets need it, and which of its days pass BYWEEKNO.
-ghost use Rattle.std.specs.Prelude.{◌≡◌, ◌+◌, ◌-◌, ◌%◌, ◌≤◌, length};
+ghost use Rattle.std.specs.Prelude.{◌≡◌, ◌+◌, ◌-◌, ◌%◌, ◌≤◌};
 ghost use Rattle.calendar.specs.Calendar.{new_year};
 ghost use Rattle.rule.specs.Days.{week1};
 ghost use Rattle.weeks.specs.Weeks.{year_info, has_mask, week_mask, weeks_around, Counted, passes_around, slots_pass, Marked};
@@ -136,7 +136,7 @@ fn number_passes(weeknos: &[bool; 106], number: usize, count: usize) -> bool
 
 // Marks the places of a mask from one up to another.
 fn mark(mask: &mut [bool; 373], from: usize, to: usize)
-    requires { (length mask.old ≡ 373) × (from ≤ to) × (to ≤ 373) }
+    requires { (from ≤ to) × (to ≤ 373) }
     ensures { Marked from to mask.old mask.new }
 {
     for flag in &mut mask[from..to] {

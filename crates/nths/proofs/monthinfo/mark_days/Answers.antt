@@ -19,7 +19,7 @@ loop-place-init g c =
     let a = c.args in (
       omega arith,
       c.first_place-place.ensures.1,
-      none_marked (nth_at a.inyear a.year a.byday.now) a.year.first a.weekday a.mask.now c.first_place-place.result c.requires.sizes.1 c.first_place-place.ensures.0 c.first_place-place.ensures.1,
+      none_marked (nth_at a.inyear a.year a.byday.now) a.year.first a.weekday a.mask.now c.first_place-place.result c.told-mask c.first_place-place.ensures.0 c.first_place-place.ensures.1,
     )
 
 -- the place lies in the tables, and what is told of it
@@ -35,7 +35,7 @@ nth_passes-requires g c =
     let d = (goal.at.nth_passes-requires g c).After-ends-day in
     let t = told g d in
     let r = ends c.args.inyear c.args.year c.loop-place.place (in_place g d) in
-    (c.requires.sizes.0, omega arith, omega arith, omega arith, omega arith)
+    (c.requires.weekday, omega arith, omega arith, omega arith, omega arith)
 
 -- one place more is marked
 marked : (g : Over) (c : After-nth_passes g)
@@ -47,7 +47,7 @@ marked g c =
     let t = told g d in
     one_marked (nth_at a.inyear a.year a.byday.now) a.year.first a.weekday a.mask.now c.loop-place.place c.loop-place.mask c.nth_passes.result
     (omega (arith, in_place g d, days_high a.year.long)) c.loop-place.invariant.1
-    (c.nth_passes.ensures ∙ nth_told a.year a.byday.now c.loop-place.place a.inyear a.weekday c.ends-day.result.0 c.ends-day.result.1 (in_place g d) (sym c.loop-place.invariant.1) t.0 t.1)
+    (rw c.nth_passes.ensures (nth_told a.year a.byday.now c.loop-place.place a.inyear a.weekday c.ends-day.result.0 c.ends-day.result.1 (in_place g d) (sym c.loop-place.invariant.1) t.0 t.1))
     c.loop-place.invariant.2
 
 pub loop-place-preserved : goal.loop-place-preserved

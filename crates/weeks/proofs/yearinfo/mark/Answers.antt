@@ -31,15 +31,15 @@ pub loop-flag-preserved : goal.loop-flag-preserved
 loop-flag-preserved c =
     let a = c.args in
     let l = c.loop-flag in
-    let n = mid_len a.from a.to a.mask.now (omega (arith, c.requires)) in
+    let n = mid_len a.from a.to a.mask.now (omega (arith, c.requires, c.told-mask)) in
     let q : a.from + (l.flag-index + 1) ≡ a.from + l.flag-index + 1 = omega arith in
-    rw (set_in_part a.from (a.to - a.from) l.flag-index a.mask.now l.flag-items (omega (arith, c.requires)) (omega (arith, l.auto.flag-items, c.loop-flag-test.true)), q)
-    (mark_next a.from (a.from + l.flag-index) a.mask.now _ (omega arith) (omega (arith, n, c.requires, c.loop-flag-test.true)) l.invariant)
+    rw (set_in_part a.from (a.to - a.from) l.flag-index a.mask.now l.flag-items (omega (arith, c.requires, c.told-mask)) (omega (arith, l.auto.flag-items, c.loop-flag-test.true)), q)
+    (mark_next a.from (a.from + l.flag-index) a.mask.now _ (omega arith) (omega (arith, n, c.requires, c.told-mask, c.loop-flag-test.true)) l.invariant)
 
 pub returns : goal.returns
 returns c =
     let a = c.args in
     let l = c.loop-flag in
-    let n = mid_len a.from a.to a.mask.now (omega (arith, c.requires)) in
+    let n = mid_len a.from a.to a.mask.now (omega (arith, c.requires, c.told-mask)) in
     let q : a.from + l.flag-index ≡ a.to = omega (arith, n, c.requires, c.loop-flag-test.false, l.auto.flag-index-end) in
     rw q at l.invariant

@@ -50,7 +50,7 @@ loop-week-preserved-then-not-week_passes c =
 pub mark-requires : goal.mark-requires
 mark-requires c =
     let l = c in
-    (l.loop-week.invariant.1.size, omega arith, omega (arith, longest l.args.year))
+    (omega arith, omega (arith, longest l.args.year))
 
 pub loop-week-preserved : goal.loop-week-preserved
 loop-week-preserved c =
