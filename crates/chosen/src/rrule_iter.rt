@@ -3,6 +3,7 @@ ghost use Rattle.std.specs.Prelude.{◌≡◌};
 ghost use Rattle.walks.specs.Walks.{walked_by};
 ghost use Rattle.chosen.specs.Chosen.{places_walk};
 
+use calendar::utils::EPOCH;
 use passing::rrule_iter::{is_late, is_reached, is_ready};
 use walks::rrule_iter::{Bounds, Candidates, Held, Walked, Why, is_framed};
 
@@ -41,7 +42,7 @@ pub fn walk_places(
         if second < bounds.start {
             continue;
         }
-        buffer[slot] = second - 62135596800;
+        buffer[slot] = second - EPOCH;
         let number = at.cursor.number + 1;
         at.cursor.number = number;
         at.handed += 1;

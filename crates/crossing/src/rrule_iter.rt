@@ -3,6 +3,7 @@ ghost use Rattle.std.specs.Prelude.{◌≡◌};
 ghost use Rattle.walks.specs.Walks.{walked_by};
 ghost use Rattle.crossing.specs.Crossing.{days_walk};
 
+use calendar::utils::EPOCH;
 use passing::rrule_iter::{is_late, is_reached, is_ready};
 use times::iterinfo::quotient;
 use walks::rrule_iter::{Bounds, Candidates, Held, Walked, Why, is_framed};
@@ -43,7 +44,7 @@ pub fn walk_days(candidates: &Candidates, bounds: Bounds, held: Held, buffer: &m
             if second < bounds.start {
                 continue;
             }
-            buffer[slot] = second - 62135596800;
+            buffer[slot] = second - EPOCH;
             let number = at.cursor.number + 1;
             at.cursor.number = number;
             at.handed += 1;

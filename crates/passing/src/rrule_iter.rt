@@ -5,6 +5,7 @@ ghost use Rattle.rule.specs.Run.{count_of};
 ghost use Rattle.walks.specs.Walks.{bound_of};
 ghost use Rattle.passing.specs.Passing.{is_ready, is_passed, passed_days};
 
+use calendar::utils::EPOCH;
 use times::iterinfo::quotient;
 use walks::rrule_iter::{Bounds, Frame, Held, is_framed, midnight_of};
 
@@ -27,7 +28,7 @@ pub fn is_reached(bounds: Bounds, number: u64) -> bool
 pub fn is_ready(bounds: Bounds, held: Held, room: usize) -> bool
     ensures { result ≡ is_ready bounds held room }
 {
-    (62135596800 <= bounds.start)
+    (EPOCH <= bounds.start)
         & ((held.handed <= room) & (held.cursor.number < 9223372036854775808))
 }
 
