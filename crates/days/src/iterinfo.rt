@@ -79,7 +79,7 @@ fn next_marked(marks: &[bool; 373], from: usize, to: usize) -> usize
     first_marked(marks, at, to)
 }
 
-// The places of a stretch that a mask marks.
+// The places of a stretch that a mask marks. No `for`: the next mark is looked for eight places at a step, which a bar of speed needs.
 fn marked_days(marks: &[bool; 373], from: usize, end: usize, days: &mut [u16; 373]) -> usize
     requires { (from < end) × (end ≤ 373) }
     ensures count { result ≡ length (marked_days marks.now from end) }

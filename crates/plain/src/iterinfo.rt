@@ -54,7 +54,7 @@ pub fn plain_days(long: bool, from: usize, to: usize, days: &mut [u16; 373]) -> 
     written
 }
 
-// The day set where BYMONTH alone is asked: the places of a stretch that pass it.
+// The day set where BYMONTH alone is asked: the places of a stretch that pass it. Over a slice of months it is no plainer: `from` may lie past it.
 pub fn days_by_month(
     rule: &Rule,
     info: &IterInfo,

@@ -1,7 +1,7 @@
 // The times of a period by number: what it has to choose from, how many times that makes, and each of them.
 // Hours, minutes and seconds stand in rows of 144 places: hour h at h, minute m at 24 + m, second s at 84 + s.
-ghost use Rattle.std.specs.Prelude.{◌≡◌, ◌+◌, ◌/◌, ◌≤◌, length};
-ghost use Rattle.times.specs.TimeSets.{flag_in, count_of, open_of, times_len, value_at, time_at};
+ghost use Rattle.std.specs.Prelude.{◌≡◌, ◌/◌, false, get_or, if◌then◌else◌};
+ghost use Rattle.times.specs.TimeSets.{count_of, open_of, times_len, time_at};
 
 use rule::rrule::Frequency;
 
@@ -18,9 +18,9 @@ pub struct Counts {
 pub fn open_times(freq: Frequency, begins: u32, flags: &[bool; 144], counts: Counts) -> Counts
     ensures { result ≡ open_of freq begins flags.now counts }
 {
-    let hour = flag_in(flags, 0, 24, begins / 3600);
-    let minute = flag_in(flags, 24, 60, begins / 60 % 60);
-    let second = flag_in(flags, 84, 60, begins % 60);
+    let hour = flag_in(&flags[..24], begins / 3600);
+    let minute = flag_in(&flags[24..84], begins / 60 % 60);
+    let second = flag_in(&flags[84..144], begins % 60);
     Counts {
         hours: count_of(freq < Frequency::Hourly, counts.hours, hour),
         minutes: count_of(freq < Frequency::Minutely, counts.minutes, minute),
@@ -29,14 +29,13 @@ pub fn open_times(freq: Frequency, begins: u32, flags: &[bool; 144], counts: Cou
 }
 
 // Whether a value passes; one that is too high doesn't.
-fn flag_in(flags: &[bool; 144], from: u32, size: u32, value: u32) -> bool
-    requires { from + size ≤ 144 }
-    ensures { result ≡ flag_in flags.now from size value }
+fn flag_in(flags: &[bool], value: u32) -> bool
+    ensures { result ≡ get_or flags.now value false }
 {
-    if size <= value {
-        return false;
+    match flags.get(value as usize) {
+        Some(flag) => *flag,
+        None => false,
     }
-    flags[(from + value) as usize]
 }
 
 // All that pass, or the one that is fixed, if that passes.
@@ -65,13 +64,13 @@ pub fn time_at(freq: Frequency, begins: u32, counts: Counts, lists: &[u8; 144], 
     let past = quotient(t, secondcount);
     let place = quotient(past, minutecount);
     let anyhour = freq < Frequency::Hourly;
-    let hour = value_at(anyhour, lists, 0, 24, place, begins / 3600);
+    let hour = value_at(anyhour, &lists[..24], place, begins / 3600);
     let minuteplace = past - place * minutecount;
     let anyminute = freq < Frequency::Minutely;
-    let minute = value_at(anyminute, lists, 24, 60, minuteplace, begins / 60 % 60);
+    let minute = value_at(anyminute, &lists[24..84], minuteplace, begins / 60 % 60);
     let secondplace = t - past * secondcount;
     let anysecond = freq < Frequency::Secondly;
-    let second = value_at(anysecond, lists, 84, 60, secondplace, begins % 60);
+    let second = value_at(anysecond, &lists[84..144], secondplace, begins % 60);
     (hour as u64) * 3600 + ((minute as u64) * 60 + (second as u64))
 }
 
@@ -92,15 +91,14 @@ pub fn quotient(number: u32, count: u32) -> u32
 }
 
 // An entry of a list, 0 past its places; or the value that is fixed.
-fn value_at(coarser: bool, lists: &[u8], from: u32, size: u32, place: u32, fixed: u32) -> u32
-    requires { (from + size ≤ 144) × (length lists.now ≡ 144) }
-    ensures { result ≡ value_at coarser lists.now from size place fixed }
+fn value_at(coarser: bool, list: &[u8], place: u32, fixed: u32) -> u32
+    ensures { result ≡ (if coarser then get_or list.now place 0 else fixed) }
 {
     if !coarser {
         return fixed;
     }
-    if size <= place {
-        return 0;
+    match list.get(place as usize) {
+        Some(value) => *value as u32,
+        None => 0,
     }
-    lists[(from + place) as usize] as u32
 }

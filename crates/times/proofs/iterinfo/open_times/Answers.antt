@@ -2,13 +2,14 @@
 -- Assumes nothing.
 use Rattle.std.proofs.Common.{rules}
 use Prim.Native.Nat.{ℕ, ◌/◌, ◌%◌}
-use mathlib.Core.Path.{◌≡◌}
+use mathlib.Core.Path.{◌≡◌, ◌∙◌}
 use mathlib.Core.Bool.{Bool}
 use mathlib.Core.List.{List}
 use Rattle.rule.specs.declared.rrule.Frequency.{Frequency}
 use Rattle.rule.specs.Filling.{is_below}
 use Rattle.times.specs.declared.iterinfo.Counts.{Counts}
 use Rattle.times.specs.TimeSets.{flag_in, count_of, open_of}
+use Rattle.times.proofs.Parts.{flag_is}
 use Rattle.times.proofs.iterinfo.open_times.Goals as goal
 
 -- what is open from its parts, as the code works them out
@@ -32,9 +33,9 @@ returns c =
     let a = f.args in
     put_together a.freq a.begins a.flags.now a.counts c.lt.result c.lt-2.result c.lt-3.result _ _ _ _ _ _
     (search rules) (search rules) (search rules)
-    f.flag_in-hour.ensures
-    f.flag_in-minute.ensures
-    f.flag_in-second.ensures
+    (f.flag_in-hour.ensures ∙ flag_is a.flags.now 0 24 _)
+    (f.flag_in-minute.ensures ∙ flag_is a.flags.now 24 60 _)
+    (f.flag_in-second.ensures ∙ flag_is a.flags.now 84 60 _)
     c.count_of.ensures
     c.count_of-2.ensures
     c.count_of-3.ensures

@@ -3,7 +3,7 @@
 use Rattle.std.proofs.Common.{rules}
 use mathlib.Core.Bool.{Bool}
 use Prim.Native.Nat.{ℕ, ◌+◌, ◌-◌, ◌*◌, ◌/◌, ◌%◌}
-use mathlib.Core.Path.{◌≡◌}
+use mathlib.Core.Path.{◌≡◌, ◌∙◌}
 use mathlib.Core.List.{List}
 use native.Mathlib.Nat.{div-mul-le_self, mod-eq-sub-div-mul}
 use native.Mathlib.Omega.{arith}
@@ -11,6 +11,7 @@ use Rattle.rule.specs.declared.rrule.Frequency.{Frequency}
 use Rattle.rule.specs.Filling.{is_below}
 use Rattle.times.specs.declared.iterinfo.Counts.{Counts}
 use Rattle.times.specs.TimeSets.{value_at, time_at}
+use Rattle.times.proofs.Parts.{value_is}
 use Rattle.times.proofs.iterinfo.time_at.Goals as goal
 
 -- the time from its parts, as the code works them out
@@ -54,6 +55,6 @@ returns c =
     (search rules) (search rules) (search rules)
     q.quotient-past.ensures
     q.quotient-place.ensures
-    c.value_at-hour.ensures
-    c.value_at-minute.ensures
-    c.value_at-second.ensures
+    (c.value_at-hour.ensures ∙ value_is c.lt-anyhour.result a.lists.now 0 24 _ _)
+    (c.value_at-minute.ensures ∙ value_is c.lt-anyminute.result a.lists.now 24 60 _ _)
+    (c.value_at-second.ensures ∙ value_is c.lt-anysecond.result a.lists.now 84 60 _ _)
