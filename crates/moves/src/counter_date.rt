@@ -36,48 +36,55 @@ fn next_period(counter: Counter, step: u64, limit: u64) -> Result<Counter, Cause
     )
 }
 
+// How many periods a day has, and the step from one that counts to the next, below DAILY.
+#[derive(Clone, Copy)]
+struct Grid {
+    perday: u64,
+    step: u64,
+}
+
 // How many more periods a day has.
 #[tactic(auto, unfolding(crate::specs::Increments::skipped))]
-fn left_of_day(perday: u64, tick: u64, step: u64) -> u64
-    requires { (tick < perday) × (1 ≤ step) }
-    ensures { result ≡ skipped perday step tick false }
+fn left_of_day(grid: Grid, tick: u64) -> u64
+    requires { (tick < grid.perday) × (1 ≤ grid.step) }
+    ensures { result ≡ skipped grid.perday grid.step tick false }
 {
-    (perday - 1 - tick) / step
+    (grid.perday - 1 - tick) / grid.step
 }
 
 // Where the search sets off: at the period itself, or at the last period of its day where that doesn't pass.
-fn set_off(counter: Counter, passes: bool, perday: u64, step: u64) -> Counter
-    requires { (counter.k ≤ 1099511627776) × (counter.tick < perday) × (perday ≤ 86400) × (1 ≤ step) }
-    ensures { result ≡ ahead perday step counter (skipped perday step counter.tick passes) }
+fn set_off(grid: Grid, counter: Counter, passes: bool) -> Counter
+    requires { (counter.k ≤ 1099511627776) × (counter.tick < grid.perday) × (grid.perday ≤ 86400) × (1 ≤ grid.step) }
+    ensures { result ≡ ahead grid.perday grid.step counter (skipped grid.perday grid.step counter.tick passes) }
 {
     if passes {
         return counter;
     }
-    let left = left_of_day(perday, counter.tick, step);
+    let left = left_of_day(grid, counter.tick);
     Counter {
         k: counter.k + left,
-        number: counter.number,
-        tick: counter.tick + left * step,
+        tick: counter.tick + left * grid.step,
+        ..counter
     }
 }
 
 // How many midnights n periods lead past.
-fn midnights(tick: u64, perday: u64, step: u64, n: u64) -> u64
-    requires { (tick < perday) × (perday ≤ 86400) × (step ≤ 65535) × (n ≤ 86400) }
-    ensures { result ≡ (tick + n * step) / perday }
+fn midnights(grid: Grid, tick: u64, n: u64) -> u64
+    requires { (tick < grid.perday) × (grid.perday ≤ 86400) × (grid.step ≤ 65535) × (n ≤ 86400) }
+    ensures { result ≡ (tick + n * grid.step) / grid.perday }
 {
-    (tick + n * step) / perday
+    (tick + n * grid.step) / grid.perday
 }
 
 // The counter n periods on, whose tick is known: the days that they lead past are counted at once.
-fn counter_ahead(from: Counter, perday: u64, step: u64, n: u64, tick: u64) -> Counter
-    requires k_bound { (from.k ≤ 1099511714176) × (from.number ≤ 3652059) × (from.tick < perday) }
-    requires perday_bound { (perday ≤ 86400) × (step ≤ 65535) × (n ≤ 86400) × (tick ≡ tick_on perday step from.tick n) }
-    ensures { result ≡ ahead perday step from n }
+fn counter_ahead(grid: Grid, from: Counter, n: u64, tick: u64) -> Counter
+    requires k_bound { (from.k ≤ 1099511714176) × (from.number ≤ 3652059) × (from.tick < grid.perday) }
+    requires perday_bound { (grid.perday ≤ 86400) × (grid.step ≤ 65535) × (n ≤ 86400) × (tick ≡ tick_on grid.perday grid.step from.tick n) }
+    ensures { result ≡ ahead grid.perday grid.step from n }
 {
     Counter {
         k: from.k + n,
-        number: from.number + midnights(from.tick, perday, step, n),
+        number: from.number + midnights(grid, from.tick, n),
         tick,
     }
 }
@@ -85,20 +92,16 @@ fn counter_ahead(from: Counter, perday: u64, step: u64, n: u64, tick: u64) -> Co
 // Below DAILY: the first later period whose tick passes.
 fn next_tick(
     freq: Frequency,
-    perday: u64,
-    step: u64,
+    grid: Grid,
     from: Counter,
     clock: &[bool; 144],
 ) -> Result<Counter, Cause>
-    requires perday_value { (perday ≡ ticks freq) × (limit_of freq ≡ 3652059) × (step ≤ 65535) }
-    requires k_bound { (from.k ≤ 1099511714176) × (from.number ≤ 3652059) × (from.tick < perday) }
-    ensures { result ≡ arrive freq step from (first_tick freq step from.tick clock.now perday 1) }
+    requires perday_value { (grid.perday ≡ ticks freq) × (limit_of freq ≡ 3652059) × (grid.step ≤ 65535) }
+    requires k_bound { (from.k ≤ 1099511714176) × (from.number ≤ 3652059) × (from.tick < grid.perday) }
+    ensures { result ≡ arrive freq grid.step from (first_tick freq grid.step from.tick clock.now grid.perday 1) }
 {
-    match find_tick(freq, step, from.tick, clock) {
-        Some(hit) => in_range(
-            counter_ahead(from, perday, step, hit.periods, hit.tick),
-            RANGE_END,
-        ),
+    match find_tick(freq, grid.step, from.tick, clock) {
+        Some(hit) => in_range(counter_ahead(grid, from, hit.periods, hit.tick), RANGE_END),
         None => Err(Cause::NoTick),
     }
 }
@@ -124,8 +127,9 @@ pub fn increment(
             next_period(counter, step, limit)
         }
         Frequency::Hourly | Frequency::Minutely | Frequency::Secondly => {
-            let from = set_off(counter, passes, perday, step);
-            next_tick(freq, perday, step, from, clock)
+            let grid = Grid { perday, step };
+            let from = set_off(grid, counter, passes);
+            next_tick(freq, grid, from, clock)
         }
     }
 }
