@@ -57,6 +57,7 @@ fn number_goes_on(text: &[u8], place: usize, value: u64, high: u64) -> bool
 }
 
 // A number of one digit or more, not above a highest.
+// Which digit may come hangs on the value so far: a `while` asks it. A trait of the three tests would be longer than the three loops.
 pub fn number_at(text: &[u8], at: usize, high: u64) -> Result<Symbol<u64>, usize>
     requires { (at ≤ length text.now) × (high ≤ 4294967295) }
     ensures { result ≡ shown (digits (up_to high) 0 0 at (drop at text.now)) }

@@ -29,10 +29,11 @@ fn stop_of(number: Result<Symbol<u64>, usize>) -> Result<usize, usize>
 fn has_signs(name: u64) -> bool
     ensures { result ≡ ((leb 6 name && leb name 8) || eqb name 13) }
 {
-    ((6 <= name) & (name <= 8)) | (name == 13)
+    matches!(name, 6..=8 | 13)
 }
 
 // Where the value behind a name stops.
+// A name goes by its number in the grammar's table, as its place does: an enum would only be turned into the number again.
 fn value_at(text: &[u8], at: usize, name: u64) -> Result<usize, usize>
     requires { (at ≤ length text.now) × (name ≤ 13) }
     ensures { result ≡ stop_at name at text.now }
@@ -56,7 +57,7 @@ fn goes_on(text: &[u8], place: usize, left: usize) -> bool
 }
 
 // Where the parts stop, and where the value of each name stands: 0 where there is none. It puts nothing anywhere.
-// The last part is read like the others: so the loop counts the parts that are left, as a `for` would read one more behind its end.
+// The last part is read like the others: so the loop counts the parts left, as a `for` would have to read one more behind its end.
 fn scan(text: &[u8]) -> Result<Symbol<[usize; 14]>, usize>
     ensures { result ≡ scan_from 13 (nowhere 14) 0 text.now }
 {
@@ -79,6 +80,7 @@ fn scan(text: &[u8]) -> Result<Symbol<[usize; 14]>, usize>
 }
 
 // The numbers behind the names, and what holds where a name is missing.
+// The five differ in reader, default and type: one function over a closure would leave each of them its call and its cast.
 fn freq_in(text: &[u8], place: usize) -> u8
     requires { Standing frequency place text.now }
     ensures { result ≡ number_or 0 (value_by frequency place text.now) }
