@@ -15,7 +15,6 @@ beside : {a b c d : List ℕ} → a ≡ b → c ≡ d → a ++ c ≡ b ++ d
 beside e f = cc
 
 lists_are : (l : RawLists) → day_bytes l ++ time_bytes l ≡ parts_behind (list_parts l)
-unfolding day_bytes time_bytes
 lists_are l =
     let pairs = parts_behind (day_part (paired l.bydayn l.bydayw)) in
     simp append_assoc
@@ -25,5 +24,4 @@ lists_are l =
     ∙ sym (text_lists l))
 
 pub whole : (w : Raw) → head_bytes w ++ (day_bytes w.lists ++ time_bytes w.lists) ≡ text_of w
-unfolding head_bytes
 whole w = rw (lists_are w.lists) (simp append_assoc (sym (text_pieces w)))

@@ -13,7 +13,7 @@ list_bytes name [] = []
 list_bytes name (v ∷ vs) = name ++ (signed_text v ++ entries_behind signed_text vs)
 
 -- FREQ, and what isn't a list
-unfoldable pub head_bytes : Raw → List ℕ
+abbrev pub head_bytes : Raw → List ℕ
 head_bytes w =
     part_text (both 0 (number w.freq))
     ++ (parts_behind (unless (eqb w.interval 1) (both 1 (number w.interval)))
@@ -22,7 +22,7 @@ head_bytes w =
     ++ parts_behind (unless (eqb w.wkst 0) (both 4 (number w.wkst))))))
 
 -- the lists of months, days and weeks
-unfoldable pub day_bytes : RawLists → List ℕ
+abbrev pub day_bytes : RawLists → List ℕ
 day_bytes l =
     list_bytes (59 ∷ word_at names 5) l.bymonth
     ++ (list_bytes (59 ∷ word_at names 6) l.bymonthday
@@ -31,7 +31,7 @@ day_bytes l =
     ++ parts_behind (day_part (paired l.bydayn l.bydayw)))))
 
 -- the lists of hours, minutes and seconds, and the positions
-unfoldable pub time_bytes : RawLists → List ℕ
+abbrev pub time_bytes : RawLists → List ℕ
 time_bytes l =
     list_bytes (59 ∷ word_at names 10) l.byhour
     ++ (list_bytes (59 ∷ word_at names 11) l.byminute
