@@ -6,7 +6,7 @@ use mathlib.Core.Path.{◌≡◌, refl, sym, ap, ◌∙◌}
 use mathlib.Core.Bool.{Bool, true, false, ◌&&◌}
 use mathlib.Core.Logic.{◌⊎◌, inl, inr}
 use mathlib.Core.List.{List}
-use native.Mathlib.Nat.{mul-le-mul, zero-div, div-le_self, div-mul-le_self}
+use native.Mathlib.Nat.{zero-div, div-le_self, div-mul-le_self}
 use native.Mathlib.Omega.{arith}
 use borrow.Author.Tests.{ltb-true, leb-true, lt-ltb, le-leb}
 use Rattle.machine.specs.declared.Cause.{Cause}
@@ -62,10 +62,6 @@ unfolding limit_of step_of
 is_fine f interval (inl e) = rw e (refl, refl, refl)
 is_fine f interval (inr (inl e)) = rw e (refl, refl, refl)
 is_fine f interval (inr (inr e)) = rw e (refl, refl, refl)
-
--- as far as a cycle of the day leads, nothing wraps
-pub steps_fit : (tick step n : ℕ) → tick ≤ 86400 → step ≤ 65535 → n ≤ 86400 → tick + n * step ≤ 86400 + 86400 * 65535
-steps_fit tick step n t s h = let far : n * step ≤ 86400 * 65535 = mul-le-mul h s in omega arith
 
 -- ---- the periods passed over unseen
 pub skipped_none : (step tick : ℕ) (b : Bool) → skipped 1 step tick b ≡ 0

@@ -22,9 +22,6 @@ module _ (freq : Frequency) (step tick : ℕ) (clock : List Bool) where
   abbrev first_of : ℕ → ℕ → Move
   first_of n i = first_tick freq step tick clock n i
 
-  pub begun : (e : ℕ) → first_of e 1 ≡ first_of (e + 1 - 1) 1
-  begun e = let s : e ≡ e + 1 - 1 = omega arith in ap (λ (x : ℕ). first_of x 1) s
-
   pub hit : (e n : ℕ) → n < e + 1 → passes_at n ≡ true → first_of (e + 1 - n) n ≡ To n
   unfolding first_tick first_from
   hit e n h p = let s : e + 1 - n ≡ suc (e + 1 - (n + 1)) = omega arith in rw s (rw (p, first_from))

@@ -5,8 +5,6 @@ use Prim.Native.Nat.{ℕ, ◌+◌, ◌-◌, ◌%◌}
 use Rattle.std.specs.Prelude.{Some}
 use native.Mathlib.Omega.{arith}
 use Rattle.machine.specs.Given.{Move, Move.To, Move.NoTick}
-use Rattle.rule.specs.Moves.{ticks}
-use Rattle.ticks.specs.declared.counter_date.Hit.{Hit}
 use Rattle.ticks.specs.Ticks.{tick_is_in, tick_on, first_tick, found_by, next_tick}
 use Rattle.ticks.proofs.Days.{tick_on_lem}
 use Rattle.ticks.proofs.Searches.{passes_at, hit, miss, done, next_from, next_none}
