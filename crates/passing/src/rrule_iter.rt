@@ -28,8 +28,7 @@ pub fn is_reached(bounds: Bounds, number: u64) -> bool
 pub fn is_ready(bounds: Bounds, held: Held, room: usize) -> bool
     ensures { result ≡ is_ready bounds held room }
 {
-    (EPOCH <= bounds.start)
-        & ((held.handed <= room) & (held.cursor.number < 9223372036854775808))
+    (EPOCH <= bounds.start) & ((held.handed <= room) & (held.cursor.number < 9223372036854775808))
 }
 
 // Whether a day may be passed at once, by its last second: it is before the start, and not above UNTIL.

@@ -31,12 +31,12 @@ returns c =
     let r = c.args.rule.now in
     let yearly : c.eq.result ≡ same r.freq Frequency.Yearly = c.eq.ensures ∙ is_yearly r.freq in
     rw (
-        c.second_in.ensures,
-        c.until_in.ensures,
-        c.get_timeset-times.ensures,
-        c.get_clock-clock.ensures,
-        c.asked_lists-asked.ensures,
-        yearly,
-        c.is_empty.ensures,
-        not_not (is_empty r.bymonth),
+      c.second_in.ensures,
+      c.until_in.ensures,
+      c.get_timeset-times.ensures,
+      c.get_clock-clock.ensures,
+      c.asked_lists-asked.ensures,
+      yearly,
+      c.is_empty.ensures,
+      not_not (is_empty r.bymonth),
     )
