@@ -47,10 +47,7 @@ fn write_checked(checked: Result<Rule, Refusal>, out: &mut Out) {
 // Makes the calls of a line, and writes what they come to.
 fn write_run(rule: &Rule, line: &Line, known: bool, out: &mut Out) {
     let mut buffer = [0; 4096];
-    let from = match line.cursor {
-        Some(cursor) => cursor,
-        None => fresh(rule),
-    };
+    let from = line.cursor.unwrap_or_else(|| fresh(rule));
     let last = chain::run(rule, from, cut_of(line), known, &mut buffer, out);
     if known {
         hold_chains(rule, from, line.room, last, out);

@@ -6,7 +6,7 @@ use std::fmt;
 use words::split_once;
 
 // What was compared in a group.
-#[derive(Clone, Copy)]
+#[derive(Clone, Copy, Default)]
 pub(crate) struct Tally {
     lines: u64,
     chained: u64,
@@ -14,14 +14,6 @@ pub(crate) struct Tally {
 }
 
 impl Tally {
-    pub(crate) fn new() -> Self {
-        Tally {
-            lines: 0,
-            chained: 0,
-            different: 0,
-        }
-    }
-
     pub(crate) fn write(self) {
         let mut out = Out::new();
         out.put(self);

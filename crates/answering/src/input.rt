@@ -66,9 +66,9 @@ impl Reader {
             self.end_group();
             io::write_all(1, self.line.as_slice());
             io::write_all(1, b"\n");
-            self.group = Some(Tally::new());
+            self.group = Some(Tally::default());
         } else if !line.is_empty() {
-            let group = self.group.unwrap_or(Tally::new());
+            let group = self.group.unwrap_or_default();
             self.group = Some(group.compare(line, &mut self.out));
         }
     }

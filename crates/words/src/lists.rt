@@ -14,7 +14,7 @@ pub struct Pairs {
 }
 
 // The lists that a line has.
-#[derive(Drop)]
+#[derive(Default, Drop)]
 pub struct Lists {
     pub bymonth: Option<List>,
     pub bymonthday: Option<List>,
@@ -28,20 +28,6 @@ pub struct Lists {
 }
 
 impl Lists {
-    pub(crate) fn none() -> Self {
-        Lists {
-            bymonth: None,
-            bymonthday: None,
-            byyearday: None,
-            byweekno: None,
-            byday: None,
-            byhour: None,
-            byminute: None,
-            bysecond: None,
-            bysetpos: None,
-        }
-    }
-
     // Takes the word of a list, if it can be taken.
     pub(crate) fn take(&mut self, manner: Manner, key: &[u8], text: &[u8]) -> Option<()> {
         match key {

@@ -7,7 +7,7 @@ use crate::text::split_once;
 use rule::rrule::Range;
 
 // Whether the answers of the lines are known, and whether the words of this one are the record itself.
-#[derive(Clone, Copy)]
+#[derive(Clone, Copy, Default)]
 pub(crate) struct Manner {
     pub known: bool,
     pub record: bool,

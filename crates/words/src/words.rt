@@ -7,7 +7,7 @@ use crate::text::split_once;
 use machine::Cursor;
 
 // The words that were taken so far.
-#[derive(Drop)]
+#[derive(Default, Drop)]
 pub(crate) struct Words {
     manner: Manner,
     pub freq: Option<u8>,
@@ -29,19 +29,7 @@ impl Words {
     pub(crate) fn none(manner: Manner) -> Self {
         Words {
             manner,
-            freq: None,
-            start: None,
-            interval: None,
-            count: None,
-            until: None,
-            wkst: None,
-            lists: Lists::none(),
-            record: None,
-            show: None,
-            cursor: None,
-            room: None,
-            moves: None,
-            calls: None,
+            ..Words::default()
         }
     }
 
