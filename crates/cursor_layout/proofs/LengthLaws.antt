@@ -1,6 +1,6 @@
 -- Bytes of the length that is asked for, and others.
 -- Assumes nothing.
-use Rattle.std.specs.Prelude.{if◌then◌else◌, Some}
+use Rattle.std.specs.Prelude.{if◌then◌else◌}
 use Prim.Native.Nat.{ℕ, zero, suc, ◌≤◌}
 use mathlib.Core.Path.{◌≡◌, refl, sym, ap, ◌∙◌}
 use mathlib.Core.Bool.{Bool, true, false}
@@ -9,24 +9,13 @@ use lib.Dec.{eqb}
 use native.Mathlib.Omega.{arith}
 use lib.ListN.{length, set}
 use borrow.Author.Tests.{eqb-true, eqb-false, eq-eqb, ne_eqb}
-use Rattle.machine.specs.declared.Cursor.{Cursor}
-use Rattle.edge.specs.Layout.{cursor_in, is_cursor_bytes, decode_cursor}
-use Rattle.edge.proofs.EdgeLaws.{cursor_size, cursor_held}
-use Rattle.cursor_layout.specs.Lengths.{of_length, Put, put, put_to}
+use Rattle.cursor_layout.specs.Lengths.{Put, put, put_to}
 
 -- a store behind the end changes nothing
 pub set_behind : (l : List ℕ) (i x : ℕ) → length l ≤ i → set l i x ≡ l
 set_behind [] i x h = refl
 set_behind (y ∷ l) zero x h = absurd (omega arith)
 set_behind (y ∷ l) (suc i) x h = ap (λ (rest : List ℕ). y ∷ rest) (set_behind l i x (omega arith))
-
-pub of_length_lem : (n : ℕ) (bytes : List ℕ) → length bytes ≡ n → of_length n bytes ≡ bytes
-unfolding of_length
-of_length_lem n bytes h = rw (eq-eqb (length bytes) n h)
-
-pub of_other_length : (n : ℕ) (bytes : List ℕ) → (length bytes ≡ n → ⊥) → of_length n bytes ≡ []
-unfolding of_length
-of_other_length n bytes h = rw (ne_eqb (length bytes) n h)
 
 module _ (n : ℕ) (encoded bytes : List ℕ) where
   pub put_whole : length bytes ≡ n → put true encoded ≡ put_to n encoded bytes
@@ -58,7 +47,3 @@ module _ (n : ℕ) (encoded bytes : List ℕ) where
 
     pub put_at : length bytes ≡ n → x ≡ encoded
     put_at h = ap (λ (p : Put). p.bytes) (done ∙ sym (put_whole h))
-
--- the cursor that is read of bytes which hold one
-pub cursor_is : (bytes : List ℕ) (c : Cursor) → is_cursor_bytes bytes ≡ true → c ≡ cursor_in (of_length 22 bytes) → decode_cursor bytes ≡ Some c
-cursor_is bytes c e f = cursor_held bytes c e (f ∙ ap cursor_in (of_length_lem 22 bytes (cursor_size bytes e)))

@@ -1,7 +1,7 @@
 // A cursor as bytes, the version first.
-ghost use Rattle.std.specs.Prelude.{◌≡◌};
-ghost use Rattle.edge.specs.Layout.{state_number, state_of, cursor_length, encode_cursor, cursor_in, is_cursor_bytes};
-ghost use Rattle.cursor_layout.specs.Lengths.{of_length, put, put_to};
+ghost use Rattle.std.specs.Prelude.{◌≡◌, length};
+ghost use Rattle.edge.specs.Layout.{state_number, state_of, cursor_length, encode_cursor, cursor_in, is_cursor_bytes, decode_cursor};
+ghost use Rattle.cursor_layout.specs.Lengths.{put, put_to};
 
 use crate::numbers::{put_1, put_4, put_8, read_4, read_8};
 use machine::{Cause, Cursor, State};
@@ -33,32 +33,32 @@ fn state_of(number: u8) -> State
     }
 }
 
-pub fn is_cursor_bytes(bytes: &[u8]) -> bool
+fn is_cursor_bytes(bytes: &[u8]) -> bool
     ensures { result ≡ is_cursor_bytes bytes.now }
 {
-    if bytes.len() != CURSOR_LENGTH {
-        return false;
-    }
-    (bytes[0] == CURSOR_VERSION) & (bytes[1] <= 5)
+    bytes.len() == CURSOR_LENGTH && (bytes[0] == CURSOR_VERSION) & (bytes[1] <= 5)
 }
 
-// The cursor that bytes hold; those of another length are read as if there were none.
-pub fn cursor_in(bytes: &[u8]) -> Cursor
-    ensures { result ≡ cursor_in (of_length cursor_length bytes.now) }
+fn cursor_in(bytes: &[u8]) -> Cursor
+    requires { length bytes.now ≡ 22 }
+    ensures { result ≡ cursor_in bytes.now }
 {
-    if bytes.len() != CURSOR_LENGTH {
-        return Cursor {
-            state: State::Running,
-            k: 0,
-            place: 0,
-            number: 0,
-        };
-    }
     Cursor {
         state: state_of(bytes[1]),
         k: read_8(bytes, 2),
         place: read_4(bytes, 10) as u32,
         number: read_8(bytes, 14),
+    }
+}
+
+// The cursor that bytes hold, if they hold one.
+pub fn decode_cursor(bytes: &[u8]) -> Option<Cursor>
+    ensures { result ≡ decode_cursor bytes.now }
+{
+    if is_cursor_bytes(bytes) {
+        Some(cursor_in(bytes))
+    } else {
+        None
     }
 }
 

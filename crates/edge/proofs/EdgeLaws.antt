@@ -1,10 +1,11 @@
 -- What the calls from C answer, case by case.
 -- Assumes nothing.
-use Rattle.std.specs.Prelude.{Option, Some, None, Ok, Err}
+use Rattle.std.specs.Prelude.{Option, Some, None, Ok, Err, if◌then◌else◌}
 use Prim.Native.Nat.{ℕ}
 use mathlib.Core.Path.{◌≡◌, refl, sym, ap, ◌∙◌}
 use mathlib.Core.Bool.{Bool, true, false, ◌&&◌}
 use mathlib.Core.List.{List}
+use native.Mathlib.Omega.{arith}
 use lib.Dec.{eqb}
 use lib.ListN.{length}
 use borrow.Author.Tests.{eqb-true, eq-eqb, ne_eqb}
@@ -37,7 +38,7 @@ unfolding is_cursor_bytes
 cursor_size bytes e = eqb-true (length bytes) 22 (and_left (eqb (length bytes) 22) _ e)
 
 -- what bytes hold
-no_record : (bytes : List ℕ) → is_record_bytes bytes ≡ false → decode_record bytes ≡ None
+pub no_record : (bytes : List ℕ) → is_record_bytes bytes ≡ false → decode_record bytes ≡ None
 unfolding decode_record
 no_record bytes e = rw e
 
@@ -45,13 +46,21 @@ pub record_held : (bytes : List ℕ) (r : Rule) → is_record_bytes bytes ≡ tr
 unfolding decode_record
 record_held bytes r e f = rw (e, f)
 
-no_cursor : (bytes : List ℕ) → is_cursor_bytes bytes ≡ false → decode_cursor bytes ≡ None
+pub no_cursor : (bytes : List ℕ) → is_cursor_bytes bytes ≡ false → decode_cursor bytes ≡ None
 unfolding decode_cursor
 no_cursor bytes e = rw e
 
 pub cursor_held : (bytes : List ℕ) (c : Cursor) → is_cursor_bytes bytes ≡ true → c ≡ cursor_in bytes → decode_cursor bytes ≡ Some c
 unfolding decode_cursor
 cursor_held bytes c e f = rw (e, f)
+
+pub held_size : (bytes : List ℕ) (c : Cursor) → decode_cursor bytes ≡ Some c → length bytes ≡ 22
+unfolding decode_cursor
+held_size bytes c e = cursor_size bytes (go (is_cursor_bytes bytes) e)
+  where
+    go : (t : Bool) → (if t then Some (cursor_in bytes) else None) ≡ Some c → t ≡ true
+    go true f = refl
+    go false f = absurd (let z : ◌≡◌ {A = ℕ} 0 1 = cc in omega arith)
 
 -- the check
 module _ (freq interval : ℕ) (count count' : Option ℕ) (until until' : Option ℕ) (wkst start : ℕ) (lists : RawLists) (v : Checked) (bytes : List ℕ)
@@ -74,9 +83,9 @@ module _ (freq interval : ℕ) (count count' : Option ℕ) (until until' : Optio
 
 module _ (rulebytes cursorbytes : List ℕ) where
   -- the fresh cursor
-  pub fresh_no_record : is_record_bytes rulebytes ≡ false → said 20 cursorbytes ≡ fresh_says rulebytes cursorbytes
+  pub fresh_no_record : decode_record rulebytes ≡ None → said 20 cursorbytes ≡ fresh_says rulebytes cursorbytes
   unfolding fresh_says
-  fresh_no_record e = rw (no_record rulebytes e)
+  fresh_no_record e = rw e
 
   module _ (r : Rule) (held : decode_record rulebytes ≡ Some r) where
     pub fresh_bad_record : yielded r ≡ false → said 20 cursorbytes ≡ fresh_says rulebytes cursorbytes
@@ -94,15 +103,15 @@ module _ (rulebytes cursorbytes : List ℕ) where
 
   -- the run
   module _ (buffer : List ℕ) (m : ℕ) where
-    pub run_no_record : is_record_bytes rulebytes ≡ false → shown 20 cursorbytes buffer 0 0 0 ≡ run_says rulebytes cursorbytes buffer m
+    pub run_no_record : decode_record rulebytes ≡ None → shown 20 cursorbytes buffer 0 0 0 ≡ run_says rulebytes cursorbytes buffer m
     unfolding run_says
-    run_no_record e = rw (no_record rulebytes e)
+    run_no_record e = rw e
 
     module _ (r : Rule) (held : decode_record rulebytes ≡ Some r) where
-      pub run_no_cursor : (n : ℕ) → is_cursor_bytes cursorbytes ≡ false → n ≡ unreadable (yielded r)
+      pub run_no_cursor : (n : ℕ) → decode_cursor cursorbytes ≡ None → n ≡ unreadable (yielded r)
           → shown n cursorbytes buffer 0 0 0 ≡ run_says rulebytes cursorbytes buffer m
       unfolding run_says
-      run_no_cursor n e f = rw (held, no_cursor cursorbytes e) (ap (λ (k : ℕ). shown k cursorbytes buffer 0 0 0) f)
+      run_no_cursor n e f = rw (held, e) (ap (λ (k : ℕ). shown k cursorbytes buffer 0 0 0) f)
 
       module _ (c : Cursor) (from : decode_cursor cursorbytes ≡ Some c) (a : Answer) (left : List ℕ) (ran : beside a left ≡ run_of r c buffer m) where
         pub run_refused : (n : ℕ) → n ≡ stop_number a.stop → is_refused a.stop ≡ true

@@ -29,7 +29,7 @@ use Rattle.edge.specs.Layout.{cursor_length, cursor_version, encode_cursor, is_c
 use Rattle.edge.specs.Edge.{Said, said, said_of, check_says, fresh_from, fresh_says, Shown, shown, shows, refused_shows, unreadable, run_from, run_says}
 use Rattle.edge.specs.Claims.{CheckOfRefused, CheckOfAccepted, IsOther, OtherRecordRefused, OtherCursorRefused, KeptFromBeforeRefused, CheckNumbers}
 use Rattle.edge.specs.Claims.{CheckRefusedLeaves, FreshNumbers, FreshRefusedLeaves, FreshIsRunning, RunNumbers, RunRefusedLeaves, RunOfWritten}
-use Rattle.edge.proofs.EdgeLaws.{fresh_no_record, run_no_record, run_no_cursor}
+use Rattle.edge.proofs.EdgeLaws.{no_record, no_cursor, fresh_no_record, run_no_record, run_no_cursor}
 use Rattle.edge.proofs.ReadBack.{record_read_back, cursor_read_back}
 
 never : {A : Type 0} (n : ℕ) → n < n → A
@@ -166,12 +166,12 @@ other_cursor bytes h =
 
 pub other_record_refused : OtherRecordRefused
 other_record_refused rulebytes cursorbytes h =
-    let e = other_record rulebytes h in
+    let e = no_record rulebytes (other_record rulebytes h) in
     (sym (fresh_no_record rulebytes cursorbytes e), λ buffer m. sym (run_no_record rulebytes cursorbytes buffer m e))
 
 pub other_cursor_refused : OtherCursorRefused
 other_cursor_refused rulebytes cursorbytes buffer m r held good h =
-    sym (run_no_cursor rulebytes cursorbytes buffer m r held 21 (other_cursor cursorbytes h) (ap unreadable (sym good)))
+    sym (run_no_cursor rulebytes cursorbytes buffer m r held 21 (no_cursor cursorbytes (other_cursor cursorbytes h)) (ap unreadable (sym good)))
 
 pub kept_from_before_refused : KeptFromBeforeRefused
 kept_from_before_refused rulebytes cursorbytes buffer m r held good one =

@@ -10,10 +10,10 @@ ghost use Rattle.edge.specs.Edge.{said, check_says, fresh_says, shown, run_says,
 
 use basics::faults::fault_number;
 use basics::rrule::{fresh, refusal_number};
-use cursor_layout::cursor::{cursor_in, is_cursor_bytes, put_cursor, state_number};
+use cursor_layout::cursor::{decode_cursor, put_cursor, state_number};
 use listing::rrule_iter::run;
 use machine::{Fault, Stop};
-use record_layout::record::{is_record_bytes, put_record, record_in};
+use record_layout::record::{decode_record, put_record};
 use records::is_record;
 use rule::rrule::{ByLists, Rule, Unvalidated};
 use validator::validate_rrule::check;
@@ -84,10 +84,9 @@ pub extern "C" fn yomaveludge_check(
 pub extern "C" fn yomaveludge_fresh(rulebytes: &[u8], cursorbytes: &mut [u8]) -> u8
     ensures { said result cursorbytes.new ≡ fresh_says rulebytes.now cursorbytes.old }
 {
-    if !is_record_bytes(rulebytes) {
+    let Some(rule) = decode_record(rulebytes) else {
         return BAD_RECORD;
-    }
-    let rule = record_in(rulebytes);
+    };
     if !is_record(&rule) {
         return BAD_RECORD;
     }
@@ -142,14 +141,12 @@ pub extern "C" fn yomaveludge_run(
     *made = 0;
     *handed = 0;
     *cause = 0;
-    if !is_record_bytes(rulebytes) {
+    let Some(rule) = decode_record(rulebytes) else {
         return BAD_RECORD;
-    }
-    let rule = record_in(rulebytes);
-    if !is_cursor_bytes(cursorbytes) {
+    };
+    let Some(cursor) = decode_cursor(cursorbytes) else {
         return unreadable_number(&rule);
-    }
-    let cursor = cursor_in(cursorbytes);
+    };
     let answer = run(&rule, cursor, buffer, moves);
     let stop = answer.stop;
     let number = stop_number(stop);

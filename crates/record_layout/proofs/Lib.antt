@@ -1,3 +1,2 @@
 mod OneAnswer
 pub mod OptionLaws
-pub mod RecordIs
