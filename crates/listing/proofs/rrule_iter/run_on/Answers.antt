@@ -3,9 +3,6 @@
 use Prim.Native.Nat.{ℕ, ◌-◌, ◌*◌}
 use mathlib.Core.Path.{◌≡◌, sym, ap, ◌∙◌}
 use mathlib.Core.Bool.{Bool, true}
-use mathlib.Core.List.{List}
-use Rattle.machine.specs.declared.State.{State}
-use Rattle.machine.specs.Compute.{walk}
 use Rattle.stretches.specs.declared.counter_date.Days.{Days}
 use Rattle.stretches.specs.Stretches.{days_in}
 use Rattle.years.specs.declared.iterinfo.IterInfo.{IterInfo}
@@ -14,9 +11,7 @@ use Rattle.opening.specs.Opening.{none_open}
 use lib.ListN.{length}
 use Rattle.plans.specs.declared.plan.Plan.{Plan}
 use Rattle.units.specs.Years.{is_in_year}
-use Rattle.walks.specs.declared.rrule_iter.Walked.{Walked}
-use Rattle.walks.specs.Walks.{given_by, now_of, walked_by}
-use Rattle.listing.proofs.Turns.{Going, Turn, Opens, Walks, to_walk, span_is, info_made, info_covers, sound, ready, refused_right, goes}
+use Rattle.listing.proofs.Turns.{Going, Turn, Opens, Walks, span_is, info_made, info_covers, sound, ready, refused_right, goes}
 use Rattle.listing.proofs.Turns.{room_is, stops_right, moves_left, ends_right, moves_one, leads_on}
 use Rattle.listing.proofs.Turns.{begins_at, rebuilt, nearer_by_year, nearer_by_move}
 use Rattle.listing.proofs.rrule_iter.run_on.Goals as goal
