@@ -9,13 +9,21 @@ use lib.Dec.{eqb}
 use native.Mathlib.Omega.{arith}
 use lib.ListN.{length, set}
 use borrow.Author.Tests.{eqb-true, eqb-false, eq-eqb, ne_eqb}
-use Rattle.cursor_layout.specs.Lengths.{Put, put, put_to}
+use Rattle.cursor_layout.specs.Lengths.{of_length, Put, put, put_to}
 
 -- a store behind the end changes nothing
 pub set_behind : (l : List ℕ) (i x : ℕ) → length l ≤ i → set l i x ≡ l
 set_behind [] i x h = refl
 set_behind (y ∷ l) zero x h = absurd (omega arith)
 set_behind (y ∷ l) (suc i) x h = ap (λ (rest : List ℕ). y ∷ rest) (set_behind l i x (omega arith))
+
+pub of_length_lem : (n : ℕ) (bytes : List ℕ) → length bytes ≡ n → of_length n bytes ≡ bytes
+unfolding of_length
+of_length_lem n bytes h = rw (eq-eqb (length bytes) n h)
+
+pub of_other_length : (n : ℕ) (bytes : List ℕ) → (length bytes ≡ n → ⊥) → of_length n bytes ≡ []
+unfolding of_length
+of_other_length n bytes h = rw (ne_eqb (length bytes) n h)
 
 module _ (n : ℕ) (encoded bytes : List ℕ) where
   pub put_whole : length bytes ≡ n → put true encoded ≡ put_to n encoded bytes

@@ -1,6 +1,10 @@
--- Bytes of any length: only those of the length that is asked for are written.
+-- Bytes of any length: only those of the length that is asked for are read or written.
 -- Assumes nothing.
-use Rattle.std.specs.Prelude.{ℕ, Bool, true, false, List, eqb, length, if◌then◌else◌}
+use Rattle.std.specs.Prelude.{ℕ, Bool, true, false, List, [], eqb, length, if◌then◌else◌}
+
+-- what is read: bytes of another length count as none
+unfoldable pub of_length : ℕ → List ℕ → List ℕ
+of_length n bytes = if eqb (length bytes) n then bytes else []
 
 -- whether something is written to bytes, and what then stands there
 pub record Put : Type 0 where

@@ -13,7 +13,7 @@ use basics::rrule::{fresh, refusal_number};
 use cursor_layout::cursor::{decode_cursor, put_cursor, state_number};
 use listing::rrule_iter::run;
 use machine::{Fault, Stop};
-use record_layout::record::{decode_record, put_record};
+use record_layout::record::{is_record_bytes, put_record, record_in};
 use records::is_record;
 use rule::rrule::{ByLists, Rule, Unvalidated};
 use validator::validate_rrule::check;
@@ -84,9 +84,10 @@ pub extern "C" fn yomaveludge_check(
 pub extern "C" fn yomaveludge_fresh(rulebytes: &[u8], cursorbytes: &mut [u8]) -> u8
     ensures { said result cursorbytes.new ≡ fresh_says rulebytes.now cursorbytes.old }
 {
-    let Some(rule) = decode_record(rulebytes) else {
+    if !is_record_bytes(rulebytes) {
         return BAD_RECORD;
-    };
+    }
+    let rule = record_in(rulebytes);
     if !is_record(&rule) {
         return BAD_RECORD;
     }
@@ -141,9 +142,10 @@ pub extern "C" fn yomaveludge_run(
     *made = 0;
     *handed = 0;
     *cause = 0;
-    let Some(rule) = decode_record(rulebytes) else {
+    if !is_record_bytes(rulebytes) {
         return BAD_RECORD;
-    };
+    }
+    let rule = record_in(rulebytes);
     let Some(cursor) = decode_cursor(cursorbytes) else {
         return unreadable_number(&rule);
     };

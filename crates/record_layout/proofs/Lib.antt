@@ -1,2 +1,3 @@
 mod OneAnswer
 pub mod OptionLaws
+pub mod RecordIs

