@@ -20,7 +20,7 @@ use Rattle.recur.proofs.Parted.{parts_off, parts_last}
 use Rattle.recur.proofs.ShownLaws.{symbol, whole_is, place_is, value_is, not_whole, stop_is, ends_whole, ends_there, halts_short, halts_there}
 use Rattle.recur.proofs.Scanned.{part_stopped, placed_whole, places_off, places_last}
 use Rattle.recur.proofs.Named.{name_in, NameRead, name_read}
-use Rattle.recur.proofs.Onward.{part_in, places_next, value_behind, part_read, part_read_lem, next_in, parts_onward, places_onward}
+use Rattle.recur.proofs.Onward.{part_in, places_next, part_read, part_read_lem, next_in, parts_onward, places_onward}
 use Rattle.parser.specs.Scans.{stop_at, scanned, scan_from}
 
 -- by what the parts and the places come to

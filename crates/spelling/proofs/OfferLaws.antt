@@ -12,11 +12,9 @@ use borrow.Author.Tests.{eq-eqb, ne_eqb, lt-ltb, le-ltb}
 use Rattle.std.proofs.lemmas.List.{get_or-map}
 use Rattle.symbols.specs.declared.Best.{Best}
 use Rattle.symbols.specs.Languages.{pick, is_used, word_at}
-use Rattle.symbols.specs.Readers.{common, best, has_word, better, offer, choose, chosen, word}
-use Rattle.recur.specs.Grammar.{names}
+use Rattle.symbols.specs.Readers.{common, best, has_word, better, offer, choose}
 use Rattle.recur.specs.Places.{used_by}
-use Rattle.recur.specs.Shown.{shown}
-use Rattle.spelling.specs.Offers.{offer_word, Offered}
+use Rattle.spelling.specs.Offers.{offer_word}
 
 -- ---- one word
 

@@ -1,6 +1,5 @@
 -- `comma_lists::days_at` meets its contract.
 -- Assumes nothing.
-use Prim.Native.Nat.{ℕ}
 use mathlib.Core.Path.{ap, ◌∙◌}
 use mathlib.Core.List.{List}
 use lib.ListN.{drop}
@@ -8,7 +7,7 @@ use lib.IntN.{ℤ}
 use Rattle.symbols.specs.Takes.{Took}
 use Rattle.recur.specs.Grammar.{nth_of}
 use Rattle.recur.specs.Shown.{stopped}
-use Rattle.comma_lists.proofs.ListLaws.{list_of_entries, list_of_days}
+use Rattle.comma_lists.proofs.ListLaws.{list_of_days}
 use Rattle.comma_lists.proofs.days_at.Goals as goal
 
 pub returns : goal.returns

@@ -1,14 +1,12 @@
 -- `comma_lists::entries_at` meets its contract.
 -- Assumes nothing.
-use Prim.Native.Nat.{ℕ}
 use mathlib.Core.Path.{ap, ◌∙◌}
 use mathlib.Core.List.{List}
 use lib.ListN.{drop}
 use lib.IntN.{ℤ}
 use Rattle.symbols.specs.Takes.{Took}
-use Rattle.recur.specs.Grammar.{nth_of}
 use Rattle.recur.specs.Shown.{stopped}
-use Rattle.comma_lists.proofs.ListLaws.{list_of_entries, list_of_days}
+use Rattle.comma_lists.proofs.ListLaws.{list_of_entries}
 use Rattle.comma_lists.proofs.entries_at.Goals as goal
 
 pub returns : goal.returns

@@ -2,12 +2,10 @@
 -- Assumes nothing.
 use Rattle.std.specs.Prelude.{IsOk}
 use Rattle.std.proofs.Common.{rules}
-use Prim.Native.Nat.{◌+◌, ◌-◌}
 use native.Mathlib.Omega.{arith}
-use mathlib.Core.Path.{◌≡◌, refl, sym, subst⁻¹, ◌∙◌}
-use lib.ListN.{length, drop}
+use mathlib.Core.Path.{refl, sym, subst⁻¹, ◌∙◌}
+use lib.ListN.{drop}
 use Rattle.recur.proofs.ShownLaws.{is_shown}
-use Rattle.comma_lists.specs.Lists.{list_of}
 use Rattle.comma_lists.proofs.ListLaws.{lists, seen, entry_value}
 use Rattle.comma_lists.proofs.FillLaws.{stored_on, fills_first, entry_whole, fills_on, left_on, fills_off, fills_last}
 use Rattle.comma_lists.proofs.fill.Goals as goal

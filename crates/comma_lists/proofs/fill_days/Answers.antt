@@ -1,9 +1,7 @@
 -- `comma_lists::fill_days` meets its contract.
 -- Assumes nothing.
-use Prim.Native.Nat.{ℕ, ◌≤◌}
-use mathlib.Core.Path.{◌≡◌, sym, ap, ◌∙◌}
-use mathlib.Core.Bool.{true}
-use mathlib.Core.List.{List, map}
+use mathlib.Core.Path.{ap, ◌∙◌}
+use mathlib.Core.List.{List}
 use lib.ListN.{length, drop, length-map}
 use lib.Seq.{sets}
 use lib.IntN.{ℤ}

@@ -1,7 +1,6 @@
 -- `comma_lists::list_at` meets its contract: the list stops where what is still to be read of it stops.
 -- Assumes nothing.
 use Rattle.std.proofs.Common.{rules}
-use Prim.Native.Nat.{◌-◌}
 use native.Mathlib.Omega.{arith}
 use mathlib.Core.Path.{refl}
 use Rattle.comma_lists.proofs.ListLaws.{lists, seen}

@@ -4,7 +4,7 @@ use native.Mathlib.Omega.{arith}
 use mathlib.Core.Path.{sym, ◌∙◌}
 use Rattle.std.proofs.Common.{rules}
 use Rattle.symbols.specs.Counts.{ten_to}
-use Rattle.moments.proofs.FieldLaws.{WholeField, ends_within, no_number, no_letter, with_letter}
+use Rattle.moments.proofs.FieldLaws.{WholeField, no_number, no_letter, with_letter}
 use Rattle.moments.proofs.lettered_at.Goals as goal
 use Rattle.moments.proofs.lettered_at.Goals.{In_ok-number}
 

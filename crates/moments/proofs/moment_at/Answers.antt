@@ -2,7 +2,6 @@
 -- Assumes nothing.
 use native.Mathlib.Omega.{arith}
 use Rattle.std.proofs.Common.{rules}
-use Rattle.rule.specs.Instants.{epoch, last_instant}
 use Rattle.moments.proofs.MomentLaws.{no_date, date_ends, date_from, no_time_lem, date_and_time, not_after}
 use Rattle.moments.proofs.moment_at.Goals as goal
 

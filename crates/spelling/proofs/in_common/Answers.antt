@@ -1,7 +1,7 @@
 -- `spelling::in_common` meets its contract.
 -- Assumes nothing.
 use Rattle.std.proofs.Common.{rules, tests}
-use Prim.Native.Nat.{ℕ, ◌+◌, ◌-◌, ◌≤◌}
+use Prim.Native.Nat.{ℕ, ◌-◌}
 use native.Mathlib.Omega.{arith}
 use mathlib.Core.Path.{◌≡◌, sym, ap, ◌∙◌}
 use lib.ListN.{length, take, drop, length-drop}
