@@ -19,6 +19,7 @@ pub(crate) fn is_chained(room: u32, last: Chain) -> bool {
     matches!(last.stop, Stop::Ended | Stop::More) && room <= MOST_ROOM && last.moves <= MOST_MOVES
 }
 
+// A loop and no `all`: one `out` of 65,536 bytes serves every turn, and a closure would have to change it.
 pub(crate) fn are_alike(rule: &Rule, from: Cursor, room: u32, answer: &[u8]) -> bool {
     let mut out = Out::new();
     for both in 0..36 {

@@ -96,6 +96,7 @@ impl fmt::Display for Chain {
 }
 
 // Makes the calls, and writes what they hand out and how they end. Of a refused run the rest is written where the answers are known.
+// Six parameters: no contract has a fact of them, and the two callers give each a cut, a buffer and an `out` of their own.
 pub(crate) fn run(
     rule: &Rule,
     from: Cursor,

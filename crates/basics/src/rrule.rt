@@ -24,6 +24,7 @@ pub fn frequency_number(freq: Frequency) -> u8
 }
 
 // The frequency with a number; one above 6 is refused before it is asked for.
+// No TryFrom, which can fail: the clause `frequency` has a frequency for every number.
 pub fn frequency_of(number: u8) -> Frequency
     ensures { result ≡ frequency number }
 {
@@ -42,10 +43,7 @@ pub fn frequency_of(number: u8) -> Frequency
 pub fn is_until_out(until: Option<u64>) -> bool
     ensures { result ≡ until_out until }
 {
-    match until {
-        None => false,
-        Some(t) => LAST_INSTANT < t,
-    }
+    until.is_some_and(|t| LAST_INSTANT < t)
 }
 
 // Whether INTERVAL or COUNT is 0.
@@ -63,6 +61,7 @@ pub fn count_and_until(count: Option<u32>, until: Option<u64>) -> bool
 }
 
 // Whether a frequency has a list that it can't have: by its number, and which lists are present.
+// A number and no Frequency: the check asks it of what is given, which may be above 6 (`misplaces`).
 pub fn is_misplaced(freq: u8, weeknos: bool, yeardays: bool, monthdays: bool) -> bool
     ensures { result ≡ misplaces freq weeknos yeardays monthdays }
 {

@@ -9,6 +9,7 @@ use walks::rrule_iter::{Bounds, Candidates, Held, Walked, Why, is_framed};
 
 // The walk over the kept candidates, where positions choose: their numbers stand in places. No period keeps more than these.
 // By number: past the last place there is none, where a slice from the place on would ask for a test. The steps are those of walk_days, see there.
+// The numbers' count stands beside them, since there is no heap; bounds, held and buffer stand apart as in walk_days.
 pub fn walk_places(
     candidates: &Candidates,
     bounds: Bounds,

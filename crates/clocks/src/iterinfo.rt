@@ -7,6 +7,7 @@ use basics::lists::is_empty;
 use times::iterinfo::Counts;
 
 // The hours, minutes and seconds that pass, each rising, with zeros behind them, and how many there are.
+// Lists with their counts beside them: no heap.
 #[derive(Clone, Copy)]
 pub struct TimeSet {
     pub lists: [u8; 144],
@@ -29,6 +30,7 @@ pub fn get_clock<'a>(
 }
 
 // Writes a set into a row, from a place on; where it is empty, all of it.
+// A row and a place: the clause `written` speaks of the whole row, and what stands beside the set stays.
 fn put(set: &[bool], flags: &mut [bool], from: usize)
     requires { from + length set.now ≤ length flags.old }
     ensures { flags.new ≡ written flags.old from (or_all (length set.now) set.now) }
@@ -56,6 +58,7 @@ pub fn get_timeset(flags: &[bool; 144]) -> TimeSet
 }
 
 // Writes the numbers of the set flags, of so many from a place on, and says how many there are.
+// A list with its count: no heap. It is counted by hand, since the count is the answer.
 fn collect(flags: &[bool], from: usize, size: usize, list: &mut [u8]) -> u8
     requires { (size ≤ 60) × (from + size ≤ length flags.now) × (from + size ≤ length list.old) }
     ensures counts { result ≡ length (flagged from size flags.now) }

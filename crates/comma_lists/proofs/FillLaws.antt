@@ -29,10 +29,6 @@ stored_on {was} {is} {new} {count} {all} {left} {more} {v} s slot z n d f e = re
       ∙ sym (ap (λ (l : List ℤ). sets is count l) e) ∙ s.slots;
 }
 
--- no slot is lost
-pub stored_length : {was is : List ℤ} {count : ℕ} {all left : List ℤ} → Stored was is count all left → length is ≡ length was
-stored_length {was} {is} {count} {all} {left} s = sym (length-sets is count left) ∙ ap length s.slots ∙ length-sets was 0 all
-
 -- ---- entries
 
 -- Of a list that is whole so many entries are read, and it goes on at this place.

@@ -18,6 +18,7 @@ use spelling::weekday_at;
 const MORE: usize = 748;
 
 // What the entries of a list are, each a number for its slot.
+// `text` and `at` go side by side here and below: the clauses speak of `drop at text.now`, and of the two `at` alone moves on.
 trait Entries {
     ghost take: { Self → ℕ → List ℕ → Took ℤ };
 
@@ -63,6 +64,7 @@ impl Entries for Nths {
 }
 
 // Their weekdays.
+// Like `Nths` but for the half: one type with a flag would have to branch in `take`, `within` and `read` alike.
 #[derive(Clone, Copy)]
 struct Weekdays;
 
@@ -130,6 +132,7 @@ pub fn days_at(text: &[u8], at: usize) -> Result<usize, usize>
 }
 
 // Puts the entries of a list that is whole into its first slots, and answers how many they are.
+// The loop goes by entries, not by slots, which may be fewer: `sets` in the clause puts none past the end, and the count is of all.
 fn fill<E: Entries>(entries: &E, text: &[u8], at: usize, list: &mut [i16]) -> usize
     requires { (at ≤ length text.now) × ((list_of (E.take entries.now) 748 at (drop at text.now)).whole ≡ true) }
     ensures { (list.new ≡ sets list.old 0 (list_of (E.take entries.now) 748 at (drop at text.now)).value)
@@ -150,6 +153,7 @@ fn fill<E: Entries>(entries: &E, text: &[u8], at: usize, list: &mut [i16]) -> us
 }
 
 // The same for a list of numbers.
+// The count is answered apart from the lent slots: memory is fixed, and `read`'s clause tells the two apart (`outline_of`, `lists_left`).
 pub fn fill_entries(text: &[u8], at: usize, signs: bool, list: &mut [i16]) -> usize
     requires { (at ≤ length text.now) × ((entries_at signs 748 at (drop at text.now)).whole ≡ true) }
     ensures { (list.new ≡ sets list.old 0 (entries_at signs 748 at (drop at text.now)).value)
@@ -159,6 +163,7 @@ pub fn fill_entries(text: &[u8], at: usize, signs: bool, list: &mut [i16]) -> us
 }
 
 // Puts the days of a list that is whole into the first slots of BYDAY's two lists, and answers how many they are.
+// Two lists and a count, as `fill_entries` tells; BYDAY's halves are two lists in `ByLists` and the C interface.
 pub fn fill_days(text: &[u8], at: usize, ns: &mut [i16], ws: &mut [i16]) -> usize
     requires { (at ≤ length text.now) × ((days_at 748 at (drop at text.now)).whole ≡ true) }
     ensures { (ns.new ≡ sets ns.old 0 (map nth_of (days_at 748 at (drop at text.now)).value))
@@ -170,6 +175,7 @@ pub fn fill_days(text: &[u8], at: usize, ns: &mut [i16], ws: &mut [i16]) -> usiz
 }
 
 // Puts an entry into a slot, where the list has it.
+// Like `put_1` of cursor_layout but for the type: of the crates only calendar lies below both, and it has dates alone.
 fn store(list: &mut [i16], slot: usize, entry: i16)
     ensures { list.new ≡ set list.old slot entry }
 {

@@ -11,6 +11,7 @@ use walks::rrule_iter::{Bounds, Candidates, Held, Walked, Why, is_framed};
 // The walk over the days and their times, from the place on: each candidate is passed, and handed out if it is not before the start. A full
 // buffer, UNTIL and COUNT leave it from inside. Where a sum could wrap, it does nothing.
 // The nest of loops is named by the design. walk_places has the same steps: as a function they miss a bar of speed (docs/DECISIONS.md, "The run").
+// By number, as in walk_places. Bounds and held stand apart: the bounds stay, and what is held changes; the buffer and its count are C's.
 pub fn walk_days(candidates: &Candidates, bounds: Bounds, held: Held, buffer: &mut [u64]) -> Walked
     ensures walked { walked_by result buffer.new
         ≡ days_walk candidates.now.frame bounds held candidates.now.days.now candidates.now.lists.now buffer.old }

@@ -23,6 +23,10 @@ use Rattle.cursor_layout.proofs.numbers.put_8.Kinds as put-8-kinds
 use Rattle.cursor_layout.proofs.numbers.put_8.Reads as put-8
 use Rattle.cursor_layout.proofs.cursor.state_number.Kinds as state-number-kinds
 use Rattle.cursor_layout.proofs.cursor.state_number.Reads as state-number
+use Rattle.cursor_layout.proofs.cursor.is_cursor_bytes.Kinds as is-cursor-bytes-kinds
+use Rattle.cursor_layout.proofs.cursor.is_cursor_bytes.Reads as is-cursor-bytes
+use Rattle.cursor_layout.proofs.cursor.cursor_in.Kinds as cursor-in-kinds
+use Rattle.cursor_layout.proofs.cursor.cursor_in.Reads as cursor-in
 use Rattle.cursor_layout.proofs.cursor.decode_cursor.Kinds as decode-cursor-kinds
 use Rattle.cursor_layout.proofs.cursor.decode_cursor.Reads as decode-cursor
 use Rattle.cursor_layout.proofs.cursor.put_cursor.Kinds as put-cursor-kinds
@@ -51,6 +55,12 @@ put_8_has_one κs a x y e f p q = (refl, one_answer p q)
 
 pub state_number_has_one : Determines 0 state-number-kinds.ps state-number-kinds.r state-number.Post
 state_number_has_one κs a x y e f = one_answer
+
+pub is_cursor_bytes_has_one : Determines 1 is-cursor-bytes-kinds.ps is-cursor-bytes-kinds.r is-cursor-bytes.Post
+is_cursor_bytes_has_one κs a x y e f = one_answer
+
+pub cursor_in_has_one : Determines 1 cursor-in-kinds.ps cursor-in-kinds.r cursor-in.Post
+cursor_in_has_one κs a x y e f = one_answer
 
 pub decode_cursor_has_one : Determines 1 decode-cursor-kinds.ps decode-cursor-kinds.r decode-cursor.Post
 decode_cursor_has_one κs a x y e f = one_answer
@@ -82,6 +92,12 @@ put_8_asks_nothing κs a = nothing_asked
 
 pub state_number_asks_nothing : AsksNothing 0 state-number-kinds.ps state-number.requires
 state_number_asks_nothing κs a = nothing_asked
+
+pub is_cursor_bytes_asks_nothing : AsksNothing 1 is-cursor-bytes-kinds.ps is-cursor-bytes.requires
+is_cursor_bytes_asks_nothing κs a = nothing_asked
+
+pub cursor_in_asks_nothing : AsksNothing 1 cursor-in-kinds.ps cursor-in.requires
+cursor_in_asks_nothing κs a = nothing_asked
 
 pub decode_cursor_asks_nothing : AsksNothing 1 decode-cursor-kinds.ps decode-cursor.requires
 decode_cursor_asks_nothing κs a = nothing_asked

@@ -5,6 +5,7 @@ ghost use Rattle.std.specs.Prelude.{◌≡◌, ◌<◌, get_or, set};
 ghost use Rattle.std.proofs.lemmas.List.Edits.{sets};
 ghost use Rattle.edge.specs.Bytes.{two_at, four_at, eight_at, two, four, eight};
 
+// No from_le_bytes: the clauses say what is read and written across the end (`two_at`, `sets`), and an array of bytes has no end to cross.
 fn byte_at(bytes: &[u8], at: usize) -> u8
     ensures { result ≡ get_or bytes.now at 0 }
 {
@@ -32,6 +33,7 @@ pub fn read_8(bytes: &[u8], at: u8) -> u64
     read_4(bytes, first) + 4294967296 * read_4(bytes, first + 4)
 }
 
+// No get_mut: it is as long, and lends a byte where a store is enough.
 pub fn put_1(bytes: &mut [u8], at: usize, byte: u8)
     ensures { bytes.new ≡ set bytes.old at byte }
 {

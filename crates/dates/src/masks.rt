@@ -7,14 +7,12 @@ use crate::masks_365::{MONTH_365, MONTH_365_RANGE, MONTH_DAY_365, MONTH_DAY_FROM
 use crate::masks_366::{MONTH_366, MONTH_366_RANGE, MONTH_DAY_366, MONTH_DAY_FROM_END_366};
 
 // What a year's table has at a place; 0 past the table.
+// Tables of numbers and none of structs: document 01 names constant year tables of 372 and 373 numbers (docs/DECISIONS.md, "The run").
 fn number_at(long: bool, common: &[u8; 372], leap: &[u8; 373], place: usize) -> u8
     ensures { result ≡ get_or (if long then leap.now else common.now) place 0 }
 {
     let table: &[u8] = if long { leap } else { common };
-    match table.get(place) {
-        Some(number) => *number,
-        None => 0,
-    }
+    table.get(place).copied().unwrap_or(0)
 }
 
 // The month of the day at a place of a year's table, counted from 0; 0 past the table.

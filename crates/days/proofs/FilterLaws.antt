@@ -48,9 +48,6 @@ year_day_read a long nextlong s i p l h k e f =
     let y : 366 - l ≡ 366 - (length + 1 - day) = omega arith in
     rw (h, x, y, end_slots yeardays s day length refl r.low r.high r.length_high r.length_high)
 
-pub week_read : (a b : Bool) → a ≡ true → not b ≡ not (where_asked a b)
-week_read a b h = rw h
-
 pub weekday_read : (a nth : Bool) (first : ℕ) (s nths : List Bool) (i w : ℕ) → a ≡ true → w ≡ weekday (first + i)
     → not (get_or s (371 + w) false || (nth && get_or nths i false)) ≡ not (where_asked a (weekday_at nth first s nths i))
 unfolding weekday_at

@@ -25,6 +25,7 @@ fn has_left(bymonthday: &[bool; 62], left: u8) -> bool
 }
 
 // The month and the month day of a place are read of the year's tables.
+// A struct of rule, year and place is no plainer: each filter reads one list and one table of them, and its clause names these.
 fn is_filtered_by_month(asked: bool, rule: &Rule, info: &IterInfo, place: usize) -> bool
     requires { place < 373 }
     ensures { result ≡ not (where_asked asked (month_at info.now.months rule.now.bymonth place)) }

@@ -13,6 +13,7 @@ use years::iterinfo::IterInfo;
 use years::lists::Asked;
 
 // The passing places of a stretch, by all the filters, day by day.
+// No heap: places in a lent array, and their count. A struct of the six is no plainer: the clause `day_set` names each by itself.
 fn filtered_days(
     asked: Asked,
     rule: &Rule,
@@ -37,6 +38,7 @@ fn filtered_days(
 }
 
 // Whether one of four flags is set.
+// Four looks and no `any`: next_marked asks it at each step, and a bar of speed counts its instructions.
 fn some_of_four(flags: &[bool], at: usize) -> bool
     requires { at + 4 ≤ length flags.now }
     ensures { result ≡ some_of_four flags.now at }
@@ -45,6 +47,7 @@ fn some_of_four(flags: &[bool], at: usize) -> bool
 }
 
 // Whether BYDAY has an entry for every weekday of its kind.
+// Not the function of records: its clause is another definition (rule specs/Records), and this one is asked in each period.
 fn has_every(byday: &[bool; 749]) -> bool
     ensures { result ≡ has_every byday.now }
 {
@@ -80,6 +83,7 @@ fn next_marked(marks: &[bool; 373], from: usize, to: usize) -> usize
 }
 
 // The places of a stretch that a mask marks. No `for`: the next mark is looked for eight places at a step, which a bar of speed needs.
+// No heap: places in a lent array, and their count.
 fn marked_days(marks: &[bool; 373], from: usize, end: usize, days: &mut [u16; 373]) -> usize
     requires { (from < end) × (end ≤ 373) }
     ensures count { result ≡ length (marked_days marks.now from end) }
@@ -96,6 +100,7 @@ fn marked_days(marks: &[bool; 373], from: usize, end: usize, days: &mut [u16; 37
 }
 
 // Writes a place behind those that are kept, unless it is filtered out, and how many are kept now.
+// No heap: a lent array, and how many of its slots are written.
 fn keep(days: &mut [u16; 373], kept: usize, place: usize, out: bool) -> usize
     requires { (kept < 373) × (place < 373) }
     ensures count { result ≡ (if out then kept else kept + 1) }
@@ -109,6 +114,7 @@ fn keep(days: &mut [u16; 373], kept: usize, place: usize, out: bool) -> usize
 }
 
 // The places of a stretch that pass BYYEARDAY.
+// No heap: places in a lent array, and their count.
 fn year_days(rule: &Rule, info: &IterInfo, from: usize, end: usize, days: &mut [u16; 373]) -> usize
     requires { (end ≤ 373) × (end ≤ days_of info.now.year.long + 7) }
     ensures count { result ≡ length (year_days info.now.year.long info.now.year.nextlong rule.now.byyearday from end) }
@@ -124,6 +130,7 @@ fn year_days(rule: &Rule, info: &IterInfo, from: usize, end: usize, days: &mut [
 }
 
 // The places of a stretch that pass BYDAY. The weekday is carried from day to day.
+// No heap: places in a lent array, and their count. Of what is asked it needs one flag, so that no struct of the six serves it.
 fn weekday_days(
     nth: bool,
     rule: &Rule,
@@ -148,6 +155,7 @@ fn weekday_days(
 }
 
 // The day set where BYYEARDAY, BYWEEKNO or BYDAY alone is asked. Where BYDAY has no entry for every weekday, the mask of the nths decides.
+// No heap: places in a lent array, and their count. The six stand apart as in filtered_days: the clause `sole_days` names each.
 fn sole_days(
     asked: Asked,
     rule: &Rule,
@@ -178,6 +186,7 @@ fn sole_days(
 
 // The passing days of a stretch of a year's tables, as their places in order, and how many there are. The slots behind them stay.
 // Where one list is asked, its test alone decides.
+// No heap: places in a lent array, and their count. The six stand apart: the clause `day_set` names each by itself.
 pub fn get_dayset(
     asked: Asked,
     rule: &Rule,

@@ -20,6 +20,7 @@ pub(crate) fn put_freq(text: &mut Text, freq: u8)
 }
 
 // INTERVAL, unless it is 1.
+// Like `put_wkst` but for the name, the default, the type and how it is put: one function would take all four, to share an `if`.
 pub(crate) fn put_interval(text: &mut Text, interval: u16)
     requires { Room text.old.place (parts_behind (unless (eqb interval 1) (both 1 (number interval)))) }
     ensures { Puts text.old (parts_behind (unless (eqb interval 1) (both 1 (number interval)))) text.new }
@@ -32,6 +33,7 @@ pub(crate) fn put_interval(text: &mut Text, interval: u16)
 }
 
 // COUNT, if there is one.
+// Like `put_until` but for the name, the type and how it is put: one function would take all three, to share an `if let`.
 pub(crate) fn put_count(text: &mut Text, count: Option<u32>)
     requires { Room text.old.place (parts_behind (count_part count)) }
     ensures { Puts text.old (parts_behind (count_part count)) text.new }
@@ -96,6 +98,7 @@ fn weekday_number(value: i16) -> u32
 }
 
 // What stands before a weekday: nothing where it is every such weekday.
+// 0 and no Option: BYDAY's i16 list holds 0 for every such weekday, as `ByLists` and the C interface have it.
 fn put_nth(text: &mut Text, nth: i16)
     requires { Room text.old.place (nth_text nth) }
     ensures { Puts text.old (nth_text nth) text.new }
@@ -116,6 +119,7 @@ fn put_day(text: &mut Text, nth: i16, weekday: i16)
 }
 
 // Entries of BYDAY, each behind a comma.
+// Here and below BYDAY's halves are two lists, as `ByLists` and the C interface have them.
 fn put_more_days(text: &mut Text, ns: &[i16], ws: &[i16])
     requires { Room text.old.place (entries_behind day_text (paired ns.now ws.now)) }
     ensures { Puts text.old (entries_behind day_text (paired ns.now ws.now)) text.new }

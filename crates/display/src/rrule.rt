@@ -60,6 +60,7 @@ fn put_rule(text: &mut Text, given: &Unvalidated)
 }
 
 // The whole text, from a buffer's first byte on, as far as it reaches; how long the text is.
+// The length is answered apart from the lent buffer: `write` promises it of a buffer that is too short, too (`written_of`).
 fn put_first(given: &Unvalidated, bytes: &mut [u8]) -> usize
     requires { UntilInRange given.now.until × Room 0 (text_of (raw_of given.now 0)) }
     ensures needed { result ≡ length (text_of (raw_of given.now 0)) }

@@ -13,6 +13,7 @@ use units::unit::unit_of;
 use walks::rrule_iter::{Bounds, Candidates};
 
 // The first second after a period with this tick, whose days end before the day to; 0 where they are far out of range.
+// No Option: the clause `end_in` has a second for every day and tick.
 fn end_of(freq: Frequency, to: u64, tick: u64) -> u64
     ensures { result ≡ end_in freq to tick }
 {
@@ -75,6 +76,7 @@ fn fits_period(plan: &Plan, opened: &OpenPeriod, end: u64, cursor: Cursor) -> bo
 }
 
 // Whether a cursor fits the period with this stretch of days and this tick.
+// The five stand apart: stretch and tick are those of the turn, and the clause `is_fit` names each by itself.
 pub fn is_fit(plan: &Plan, span: Days, tick: u64, opened: &OpenPeriod, cursor: Cursor) -> bool
     ensures { result ≡ is_fit plan.now.shape span tick plan.now.bounds opened.now.period cursor
         opened.now.days plan.now.lists opened.now.places }

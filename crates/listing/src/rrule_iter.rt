@@ -25,6 +25,7 @@ use units::year::{covers, year_at};
 use years::iterinfo::rebuild;
 
 // Whether a cursor was tried before, or fits the period that is open.
+// Asked in the loop, by a flag: a second open_period before it misses a bar of speed (docs/DECISIONS.md, "The run"). The rest are is_fit's.
 fn is_taken(
     tried: bool,
     plan: &Plan,
@@ -40,6 +41,7 @@ fn is_taken(
 }
 
 // The run of a good record from a running cursor whose period begins in range. The cursor is tried when its period is opened, at the first turn.
+// No `for`: the turns alone tell how many they are. Rule and plan are tied by one clause, here; a plan that lends its rule is no plainer.
 fn run_on(
     rule: &Rule,
     plan: &Plan,

@@ -16,6 +16,7 @@ use plans::plan::Plan;
 use walks::rrule_iter::{Bounds, Candidates, Held, Walked, Why};
 
 // The walk over all candidates, from the place on: over days and times, whole days before the start at one go.
+// Bounds, held and buffer stand apart as in walk_days.
 fn walk_all(candidates: &Candidates, bounds: Bounds, held: Held, buffer: &mut [u64]) -> Walked
     requires { Framed candidates.now.frame × Timely candidates.now.frame candidates.now.lists.now × Ready bounds held buffer.old }
     ensures { walked_by result buffer.new

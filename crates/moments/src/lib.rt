@@ -27,6 +27,7 @@ fn month_length(long: bool, month: u64) -> u64
 }
 
 // A number of two digits with a letter behind it, which is a capital or a small letter just as it is given.
+// `text` and `at` go side by side here and below: the clauses speak of `drop at text.now`, and of the two `at` alone moves on.
 fn lettered_at(
     text: &[u8],
     at: usize,

@@ -37,6 +37,7 @@ fn next_period(counter: Counter, step: u64, limit: u64) -> Result<Counter, Cause
 }
 
 // How many periods a day has, and the step from one that counts to the next, below DAILY.
+// No invariant: each function asks for the bounds that its own sums need, and next_tick has perday exactly (`ticks freq`).
 #[derive(Clone, Copy)]
 struct Grid {
     perday: u64,

@@ -67,6 +67,7 @@ fn mark_days<F: Fn(usize) -> (usize, usize)>(
 }
 
 // The mask, where `ends` tells so of a place. Only weekdays that have an entry are gone through.
+// A struct of inyear, year and byday is no plainer: neg_weekday_mask alone would make it, for these two.
 fn mask_by<F: Fn(usize) -> (usize, usize)>(
     inyear: bool,
     year: Year,

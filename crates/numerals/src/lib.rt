@@ -14,6 +14,7 @@ ghost use Rattle.numerals.specs.Bytes.{passes, DigitAt, entry_of};
 use recur::Symbol;
 
 // Whether this byte stands at a place.
+// `text` and its place go side by side here and below: the clauses speak of `drop at text.now`, and of the two the place alone moves on.
 pub fn is_at(text: &[u8], place: usize, byte: u8) -> bool
     ensures { result ≡ head_is byte (drop place text.now) }
 {
@@ -21,6 +22,7 @@ pub fn is_at(text: &[u8], place: usize, byte: u8) -> bool
 }
 
 // Whether a digit stands at a place.
+// The bound and the index are shorter than `text.get(place).is_some_and(|byte| byte.is_ascii_digit())`.
 fn is_digit_at(text: &[u8], place: usize) -> bool
     ensures { result ≡ passes is_digit (drop place text.now) }
 {
@@ -89,6 +91,7 @@ fn three_go_on(text: &[u8], place: usize, count: usize, value: u64, low: u64) ->
 }
 
 // One to three digits; `low` is 1 where the number may not be 0.
+// A `while` of its own, as `number_at` tells.
 fn three_at(text: &[u8], at: usize, low: u64) -> Result<Symbol<u64>, usize>
     requires { at ≤ length text.now }
     ensures value { result ≡ shown (digits (three low) 0 0 at (drop at text.now)) }
@@ -104,6 +107,7 @@ fn three_at(text: &[u8], at: usize, low: u64) -> Result<Symbol<u64>, usize>
 }
 
 // Whether a digit stands at a place that may be the next of so many: with it, and whatever digits behind it, some number of the range is left.
+// Seven parameters: `place`, `count` and `value` change with each turn, and the field's own three stand in two contracts alone.
 fn field_goes_on(
     text: &[u8],
     place: usize,
@@ -131,6 +135,7 @@ fn field_goes_on(
 }
 
 // So many digits, of a number from `low` to `high`.
+// A `while` of its own, as `number_at` tells.
 pub fn field_at(
     text: &[u8],
     at: usize,
@@ -197,6 +202,7 @@ pub fn entry_at(text: &[u8], at: usize, signs: bool) -> Result<Symbol<i16>, usiz
 }
 
 // The number before a weekday, or 0 where none stands there.
+// 0 and no Option: the clause's `nth_at` gives `pos 0`, and BYDAY's i16 list holds 0 for every such weekday.
 pub fn nth_at(text: &[u8], at: usize) -> Result<Symbol<i16>, usize>
     requires { at ≤ length text.now }
     ensures { result ≡ shown (nth_at at (drop at text.now)) }

@@ -26,6 +26,7 @@ pub struct Period {
 
 // A period that is open: the places of its passing days and, with positions, the numbers of its kept candidates stand in the first slots; what
 // stood in the slots behind them stays.
+// Arrays with their counts in the period: no heap.
 #[derive(Clone, Copy)]
 pub struct OpenPeriod {
     pub period: Period,
@@ -34,6 +35,7 @@ pub struct OpenPeriod {
 }
 
 // The passing days of a period. Where no list is asked, or BYMONTH alone, get_dayset, which is long, isn't called for each period.
+// No heap: places in a lent array, and their count. The six stand apart as in get_dayset: the clause `day_set` names each.
 fn period_days(
     asked: Asked,
     rule: &Rule,
@@ -55,6 +57,7 @@ fn period_days(
 }
 
 // The second of its day at which a period with this tick begins; 0 where a day has no such tick.
+// No Option: the clause `tick_second` has a second for every tick.
 fn second_of_tick(freq: Frequency, tick: u64) -> u32
     ensures { result ≡ tick_second freq tick }
 {
@@ -125,6 +128,7 @@ pub fn none_open(shape: Shape) -> OpenPeriod
 
 // Opens the period with this stretch of days and this tick, in the year that its first day lies in: the places of its passing days are
 // written, and with positions those of its kept candidates. Where no day passes, as in many periods of a rule, no more is opened.
+// A struct of what it is lent is no plainer: run_on alone would make it, anew at each turn, as stretch, tick and year change.
 pub fn open_period(
     plan: &Plan,
     span: Days,

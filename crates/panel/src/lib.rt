@@ -23,6 +23,7 @@ const BAD_RECORD: u8 = Fault::Record as u8;
 const BAD_CURSOR: u8 = Fault::Cursor as u8;
 
 // The check. COUNT is absent where `counted` is 0, and UNTIL where `bounded` is 0.
+// These numbers, flags and slices are the C interface (include/yomaveludge.h), which may not change.
 #[unsafe(no_mangle)]
 pub extern "C" fn yomaveludge_check(
     freq: u8,
@@ -98,6 +99,7 @@ pub extern "C" fn yomaveludge_fresh(rulebytes: &[u8], cursorbytes: &mut [u8]) ->
     }
 }
 
+// No `as`: a refused stop has its fault's number, and the others are those of include/yomaveludge.h (clause `stop_number`).
 fn stop_number(stop: Stop) -> u8
     ensures { result ≡ stop_number stop }
 {
@@ -127,6 +129,7 @@ fn unreadable_number(rule: &Rule) -> u8
 }
 
 // The run. `made`, `handed` and `cause` take the moves made, the count handed out and the cause's number.
+// These parameters are the C interface (include/yomaveludge.h), which may not change.
 #[unsafe(no_mangle)]
 pub extern "C" fn yomaveludge_run(
     rulebytes: &[u8],

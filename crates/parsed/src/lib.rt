@@ -13,6 +13,7 @@ use rule::rrule::{ByLists, Refusal, Rule, Unvalidated};
 use validator::validate_rrule::check;
 
 // Slots that nothing is read into yet.
+// Written out: there is no `Default` of an array of 749, so none to derive for `Slots`.
 fn empty_slots() -> Slots
     ensures { Full (slots_of result) }
 {
@@ -31,6 +32,7 @@ fn empty_slots() -> Slots
 }
 
 // Checks the rule of an outline, whose entries stand in the first slots of the lists.
+// The lengths stand beside the slots, as `Outline` tells.
 fn check_outline(outline: Outline, slots: &Slots, start: u64) -> Result<Rule, Refusal>
     requires { LongEnough outline (slots_of slots.now) }
     ensures { result ≡ checked (rule_with outline start (slots_of slots.now)) }

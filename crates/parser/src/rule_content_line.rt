@@ -26,6 +26,7 @@ fn stop_of(number: Result<Symbol<u64>, usize>) -> Result<usize, usize>
 }
 
 // Whether the numbers of a list may have signs: those of BYMONTHDAY, BYYEARDAY, BYWEEKNO and BYSETPOS may.
+// By the number of a name, as `value_at` tells.
 fn has_signs(name: u64) -> bool
     ensures { result ≡ ((leb 6 name && leb name 8) || eqb name 13) }
 {
@@ -34,6 +35,8 @@ fn has_signs(name: u64) -> bool
 
 // Where the value behind a name stops.
 // A name goes by its number in the grammar's table, as its place does: an enum would only be turned into the number again.
+// The readers have bounds of their own, and two of them answer a place and no value: a table of closures would be this match again.
+// `text` and its place go side by side here and below: `stop_at` and `Standing` in the clauses speak of `drop at text.now`.
 fn value_at(text: &[u8], at: usize, name: u64) -> Result<usize, usize>
     requires { (at ≤ length text.now) × (name ≤ 13) }
     ensures { result ≡ stop_at name at text.now }
@@ -58,6 +61,7 @@ fn goes_on(text: &[u8], place: usize, left: usize) -> bool
 
 // Where the parts stop, and where the value of each name stands: 0 where there is none. It puts nothing anywhere.
 // The last part is read like the others: so the loop counts the parts left, as a `for` would have to read one more behind its end.
+// 0 and no Option: `nowhere` in the clause, `used_by` and the theorem `ValuesByPlaces` of recur read the places as numbers, 0 for none.
 fn scan(text: &[u8]) -> Result<Symbol<[usize; 14]>, usize>
     ensures { result ≡ scan_from 13 (nowhere 14) 0 text.now }
 {
@@ -81,6 +85,7 @@ fn scan(text: &[u8]) -> Result<Symbol<[usize; 14]>, usize>
 
 // The numbers behind the names, and what holds where a name is missing.
 // The five differ in reader, default and type: one function over a closure would leave each of them its call and its cast.
+// Here and below 0 is no place, as `Standing` and `value_by` in the clauses have it.
 fn freq_in(text: &[u8], place: usize) -> u8
     requires { Standing frequency place text.now }
     ensures { result ≡ number_or 0 (value_by frequency place text.now) }
@@ -121,6 +126,7 @@ fn until_in(text: &[u8], place: usize) -> Option<u64>
     Some(moment_at(text, place).unwrap().value)
 }
 
+// Like `freq_in` but for the reader, and for the kind in both clauses: one function would take the reader, the kind and what ties them.
 fn wkst_in(text: &[u8], place: usize) -> u8
     requires { Standing weekday place text.now }
     ensures { result ≡ number_or 0 (value_by weekday place text.now) }
@@ -132,6 +138,7 @@ fn wkst_in(text: &[u8], place: usize) -> u8
 }
 
 // Fills a list from its value's place, where it has one, and answers how many entries it has.
+// Here and below the count is answered apart from the lent slots: `read`'s clause tells the counts (`outline_of`) and the slots (`lists_left`).
 fn fill_list(text: &[u8], place: usize, signs: bool, list: &mut [i16; 749]) -> usize
     requires { Standing (entries signs) place text.now }
     ensures { (list.new ≡ sets list.old 0 (as_list (value_by (entries signs) place text.now)))
@@ -144,6 +151,7 @@ fn fill_list(text: &[u8], place: usize, signs: bool, list: &mut [i16; 749]) -> u
 }
 
 // The same for BYDAY's two lists.
+// Apart from `fill_list`: BYDAY's halves are two lists in `ByLists` and the C interface, and have a reader of their own.
 fn fill_byday(text: &[u8], place: usize, ns: &mut [i16; 749], ws: &mut [i16; 749]) -> usize
     requires { Standing day_entries place text.now }
     ensures { (ns.new ≡ sets ns.old 0 (map nth_of (as_days (value_by day_entries place text.now))))
@@ -157,6 +165,7 @@ fn fill_byday(text: &[u8], place: usize, ns: &mut [i16; 749], ws: &mut [i16; 749
 }
 
 // The rule of the values at the places; its lists are put into the slots.
+// Places by number: `rule_at` in the clause counts the grammar's names so (`kind_of`).
 fn filled(text: &[u8], places: [usize; 14], slots: &mut Slots) -> Outline
     requires { AllStanding places text.now }
     ensures { (result ≡ outline_of (rule_at places text.now))

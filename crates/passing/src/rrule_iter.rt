@@ -43,6 +43,7 @@ fn is_passed(bounds: Bounds, last: u64) -> bool
 
 // Passes the days from the place on that lie before the start, at one go; none where the buffer is full, the place is within a day, or a sum
 // could wrap.
+// By number: the place may lie past the days, where a slice would ask for a test. No Candidates: it needs no lists of times.
 pub fn pass_days(full: bool, frame: Frame, bounds: Bounds, held: Held, days: &[u16; 373]) -> Held
     ensures { result ≡ passed_days full frame bounds held days.now }
 {

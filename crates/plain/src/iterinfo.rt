@@ -41,6 +41,7 @@ pub fn stretch_end(long: bool, to: usize) -> usize
 }
 
 // The day set where no list is asked: all the places of a stretch of a year's tables.
+// Places in a lent array, with their count: no heap. Counted by hand, since the count is the answer; a zip would reckon it apart.
 pub fn plain_days(long: bool, from: usize, to: usize, days: &mut [u16; 373]) -> usize
     ensures count { result ≡ length (all_days from (min to (days_of long + 7))) }
     ensures places { days.new ≡ sets days.old 0 (all_days from (min to (days_of long + 7))) }
@@ -55,6 +56,7 @@ pub fn plain_days(long: bool, from: usize, to: usize, days: &mut [u16; 373]) -> 
 }
 
 // The day set where BYMONTH alone is asked: the places of a stretch that pass it. Over a slice of months it is no plainer: `from` may lie past it.
+// Places in a lent array, with their count: no heap.
 pub fn days_by_month(
     rule: &Rule,
     info: &IterInfo,

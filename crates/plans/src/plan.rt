@@ -23,6 +23,7 @@ pub struct Shape {
 }
 
 // That and INTERVAL; the hours, minutes and seconds that pass, as flags and as short lists; and the bounds.
+// The short lists' counts stand in the shape: no heap.
 #[derive(Clone, Copy)]
 pub struct Plan {
     pub shape: Shape,
@@ -33,6 +34,7 @@ pub struct Plan {
 }
 
 // An instant as a second; 0 where it is out of range.
+// No Option: the clause `second_in` has a second for every instant, and no good record has one out of range.
 fn second_in(instant: u64) -> u64
     ensures { result ≡ second_in instant }
 {

@@ -41,6 +41,7 @@ fn put_chosen(
 
 // The places of the kept candidates of n, rising, from the buffer's first slot on; how many there are. Behind place 365 only positions from
 // the end choose, and they reach back no further than 366 places, so that at most 732 places are looked at.
+// Slots with a count beside them: no heap.
 pub fn build_pos_list(bysetpos: &[bool; 732], n: u32, places: &mut [u32; 732]) -> usize
     ensures value { result ≡ length (kept_places bysetpos.now n) }
     ensures places_after { places.new ≡ over (kept_places bysetpos.now n) places.old }

@@ -3,6 +3,7 @@ ghost use Rattle.std.specs.Prelude.{[], ◌∷◌};
 ghost use Rattle.puts.specs.Put.{Puts, Room};
 
 // A text as it is written: its bytes, and the place of the next one.
+// The place goes on past the end, so it is the length of no slice: `Puts` counts bytes that have no place, and a text is measured so.
 #[derive(Drop)]
 pub struct Text<'a> {
     pub bytes: &'a mut [u8],

@@ -7,6 +7,7 @@ use crate::bytes::Text;
 
 impl Text<'_> {
     // A weekday's two letters, and none where there is no such weekday.
+    // By number, as `word_at` in the clause: an enum would be a narrower type, and a number above 6 puts nothing.
     pub fn put_weekday(&mut self, weekday: u32)
         requires { Room self.old.place (word_at weekday_names weekday) }
         ensures { Puts self.old (word_at weekday_names weekday) self.new }
@@ -24,6 +25,7 @@ impl Text<'_> {
     }
 
     // A frequency's name, and none where there is no such frequency.
+    // By number, as `word_at` in the clause: an enum would be a narrower type, and a number above 6 puts nothing.
     pub fn put_frequency(&mut self, freq: u8)
         requires { Room self.old.place (word_at frequencies freq) }
         ensures { Puts self.old (word_at frequencies freq) self.new }

@@ -6,6 +6,7 @@ use crate::bytes::Text;
 
 impl Text<'_> {
     // A number without zeros in front.
+    // Digits by hand, here and below: `write!` would answer a Result that is never Err, and `{:02}` cuts no number to its last digits.
     pub fn put_number(&mut self, number: u32)
         requires { Room self.old.place (decimal number) }
         ensures { Puts self.old (decimal number) self.new }

@@ -27,6 +27,7 @@ pub(crate) fn flags<const N: usize>(bytes: &[u8], from: usize) -> [bool; N]
 }
 
 // Writes a set's flags from a place on.
+// Bytes and a place: the clause `sets` speaks of all the bytes, and what stands beside the flags stays.
 pub(crate) fn put_flags(flags: &[bool], bytes: &mut [u8], from: usize)
     requires { from + length flags.now ≤ length bytes.old }
     ensures { bytes.new ≡ sets bytes.old from (flag_bytes flags.now) }

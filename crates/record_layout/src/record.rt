@@ -15,6 +15,7 @@ const RECORD_LENGTH: usize = 2564;
 const RECORD_VERSION: u8 = 1;
 
 // Whether a tag and its number are such as are written: absent has one form only.
+// A tag beside a number: so the bytes hold an Option, and their layout may not change (`encode_record`).
 fn is_tagged(tag: u8, number: u64) -> bool
     ensures { result ≡ is_tagged tag number }
 {
@@ -123,6 +124,7 @@ fn put_times(rule: &Rule, bytes: &mut [u8])
 }
 
 // Writes a record, and answers whether the bytes have its length; others are left as they were.
+// A bool and no Result: there is one refusal, and the clause `put` has a flag.
 pub fn put_record(rule: &Rule, bytes: &mut [u8]) -> bool
     ensures { put result bytes.new ≡ put_to record_length (encode_record rule.now) bytes.old }
 {

@@ -17,6 +17,7 @@ fn has_every(byday: &[bool; 749]) -> bool
 }
 
 // Whether an accepted check yields the record.
+// The frequency by its number, since is_misplaced, which the check asks too, takes a number.
 pub fn is_record(rule: &Rule) -> bool
     ensures { result ≡ yielded rule.now }
 {

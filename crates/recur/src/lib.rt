@@ -15,6 +15,7 @@ pub struct Symbol<T> {
 }
 
 // An entry of BYDAY: a weekday, and which one; 0 for every such weekday.
+// Both are numbers, and `nth` 0 where there is none: they go as they are into the i16 lists of BYDAY that `ByLists` and the C interface have.
 #[derive(Clone, Copy)]
 pub struct Day {
     pub nth: i16,
@@ -22,6 +23,7 @@ pub struct Day {
 }
 
 // What a text says, but for the entries of its lists, of which it has the numbers.
+// FREQ and WKST are numbers, and a list's length stands apart from its entries in `Slots`: `outline_of` and `lists_left`, in `read`'s clause, say so.
 #[derive(Clone, Copy)]
 pub struct Outline {
     pub freq: u8,
@@ -41,6 +43,7 @@ pub struct Outline {
 }
 
 // The slots of the ten lists: into the first of each the reader puts as many entries as the outline says.
+// Arrays, as the memory is fixed; BYDAY's halves are two, as `ByLists` and the C interface take them.
 #[derive(Drop)]
 pub struct Slots {
     pub bymonth: [i16; 749],

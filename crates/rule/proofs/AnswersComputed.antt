@@ -10,7 +10,6 @@ use Rattle.calendar.specs.Calendar.{leap, new_year, days_before_month}
 use Rattle.machine.specs.Run.{counted, at_candidate, move_on}
 use Rattle.machine.specs.Compute.{walk, after, runs}
 use Rattle.rule.specs.declared.rrule.Refusal.{Refusal}
-use Rattle.rule.specs.Refusals.{Verdict}
 use Rattle.rule.specs.Instants.{second}
 use Rattle.rule.specs.Lists.{set_of}
 use Rattle.rule.specs.Raw.{Raw}

@@ -18,7 +18,7 @@ use Rattle.rule.specs.Instants.{last_instant}
 use Rattle.rule.specs.Raw.{RawLists, Raw}
 use Rattle.rule.specs.Refusals.{refusals, lacks, some_every, some_nth, mixed_days, nth_misplaced, count_nought, misplaces, list_misplaced, applies, first_of}
 use Rattle.rule.specs.Refusals.{verdict}
-use Rattle.rule.specs.Filling.{frequency, given_as, given, fill, blank, answers, checked}
+use Rattle.rule.specs.Filling.{frequency, given_as, given, fill, answers, checked}
 use Rattle.rule.specs.Entries.{or_refused}
 use Rattle.rule.proofs.GivenLaws.{neither}
 use Rattle.rule.proofs.RefusalLaws.{none_given}

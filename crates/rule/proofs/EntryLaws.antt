@@ -1,7 +1,7 @@
 -- Entries of a list: moved up, they keep their order, their slots and their zero; and how the tests of a list go on from one entry to the next.
 -- Assumes nothing.
 use Rattle.std.specs.Prelude.{if◌then◌else◌, Option, Some, None}
-use mathlib.Core.Path.{◌≡◌, refl, ap, sym, ◌∙◌}
+use mathlib.Core.Path.{◌≡◌, refl, ap, ◌∙◌}
 use mathlib.Core.Bool.{Bool, true, false, not, ◌&&◌, ◌||◌, and-true}
 use mathlib.Core.List.{List, [], ◌∷◌}
 use Prim.Native.Nat.{ℕ, zero, suc, ◌+◌, ◌-◌, ◌≤◌, ◌<◌}
@@ -12,12 +12,12 @@ use lib.ListN.{length, get_or, drop, drop_of_length-le, length-set}
 use lib.Seq.{drop-cons}
 use lib.IntN.{ℤ, pos, negsuc, ◌+ℤ◌}
 use lib.Signed.{mag, lt_z}
-use borrow.Author.Tests.{leb-true, lt-ltb, le-ltb, ne_eqb, ltb-true, ltb-false}
+use borrow.Author.Tests.{leb-true, lt-ltb, le-ltb, ne_eqb}
 use Rattle.rule.specs.declared.rrule.Range.{Range}
-use Rattle.rule.specs.Lists.{within, zeros, slot_of, nths, weekdays, pair_slot, is_empty, mark}
-use Rattle.rule.specs.Entries.{shift, Moved, slot_at, pair_at, pair_below_at, marks}
+use Rattle.rule.specs.Lists.{within, zeros, slot_of, is_empty, mark}
+use Rattle.rule.specs.Entries.{shift, Moved, slot_at, marks}
 use Rattle.rule.specs.Raw.{entries, pairs}
-use Rattle.rule.specs.Refusals.{some, is_zero, rises, rises_from, pair_below, pairs_rise, pairs_rise_from}
+use Rattle.rule.specs.Refusals.{rises_from, pairs_rise_from}
 
 pub moved_up : (v : ℤ) → mag v < 32768 → v +ℤ pos 32768 ≡ pos (shift v)
 moved_up (pos n) h = ap pos (omega arith)
@@ -34,31 +34,6 @@ at_most_one g = go g.zeroin
     go true = omega arith
     go false = omega arith
 
-every_shift : (v : ℤ) → mag v < 32768 → eqb (shift v) 32768 ≡ is_zero v
-every_shift (pos zero) h = refl
-every_shift (pos (suc n)) h = ne_eqb (32768 + suc n) 32768 (λ (e : 32768 + suc n ≡ 32768). omega arith) ∙ sym (ne_eqb (suc n) 0 (λ (e : suc n ≡ 0). omega arith))
-every_shift (negsuc n) h = ne_eqb (32768 - suc n) 32768 (λ (e : 32768 - suc n ≡ 32768). omega arith)
-
-pub every_moved : (v : ℤ) (u : ℕ) → Moved v u → eqb u 32768 ≡ is_zero v
-every_moved v u m = ap (λ (x : ℕ). eqb x 32768) m.up ∙ every_shift v m.fits
-
--- over numbers alone: the tests of two pairs of numbers in one order agree
-same_order : (a b x y : ℕ) → (a < b → x < y) → (b ≤ a → y ≤ x) → ltb x y ≡ ltb a b
-same_order a b x y f g = go (ltb a b) refl
-  where
-    go : (t : Bool) → ltb a b ≡ t → ltb x y ≡ t
-    go true e = lt-ltb x y (f (ltb-true a b e))
-    go false e = le-ltb x y (g (ltb-false a b e))
-
-less_shift : (a b : ℤ) → mag a < 32768 → mag b < 32768 → ltb (shift a) (shift b) ≡ lt_z a b
-less_shift (pos m) (pos n) h k = same_order m n (32768 + m) (32768 + n) (λ l. omega arith) (λ l. omega arith)
-less_shift (pos m) (negsuc n) h k = le-ltb (32768 + m) (32768 - suc n) (omega arith)
-less_shift (negsuc m) (pos n) h k = lt-ltb (32768 - suc m) (32768 + n) (omega arith)
-less_shift (negsuc m) (negsuc n) h k = same_order n m (32768 - suc m) (32768 - suc n) (λ l. omega arith) (λ l. omega arith)
-
-pub less_moved : (a b : ℤ) (x y : ℕ) → Moved a x → Moved b y → ltb x y ≡ lt_z a b
-less_moved a b x y p q = ap (λ (u : ℕ). ltb u y) p.up ∙ ap (λ (u : ℕ). ltb (shift a) u) q.up ∙ less_shift a b p.fits q.fits
-
 slot_shift : (g : Range) (v : ℤ) → mag v < 32768 → slot_at g (shift v) ≡ slot_of g v
 unfolding slot_at slot_of
 slot_shift g (pos zero) h = refl
@@ -73,70 +48,15 @@ slot_shift g (negsuc n) h =
 pub slot_moved : (g : Range) (v : ℤ) (u : ℕ) → Moved v u → slot_at g u ≡ slot_of g v
 slot_moved g v u m = ap (slot_at g) m.up ∙ slot_shift g v m.fits
 
--- a test of some entry, from entry i on
-pub some_here : (p : ℤ → Bool) (l : List ℤ) (i : ℕ) → i < length l → p (get_or l i (pos 0)) ≡ true → some p (drop i l) ≡ true
-unfolding some
-some_here p l i h e = rw (drop-cons l i (pos 0) h, e)
-
-pub some_later : (p : ℤ → Bool) (l : List ℤ) (i : ℕ) → i < length l → p (get_or l i (pos 0)) ≡ false → some p (drop i l) ≡ some p (drop (i + 1) l)
-unfolding some
-some_later p l i h e = rw (add-one, drop-cons l i (pos 0) h, e)
-
-pub some_none : (p : ℤ → Bool) (l : List ℤ) (i : ℕ) → length l ≤ i → some p (drop i l) ≡ false
-unfolding some
-some_none p l i h = rw (drop_of_length-le l h)
-
--- whether a list rises, from entry i on, behind the value a
-pub rises_begin : (l : List ℤ) → rises l ≡ rises_from (get_or l 0 (pos 0)) (drop 1 l)
-unfolding rises
-rises_begin [] = refl
-rises_begin (x ∷ xs) = refl
-
 pub rises_on : (a : ℤ) (l : List ℤ) (i : ℕ) → i < length l → lt_z a (get_or l i (pos 0)) ≡ true
     → rises_from a (drop i l) ≡ rises_from (get_or l i (pos 0)) (drop (i + 1) l)
 unfolding rises_from
 rises_on a l i h e = rw (add-one, drop-cons l i (pos 0) h, e, rises_from)
 
-pub rises_not : (a : ℤ) (l : List ℤ) (i : ℕ) → i < length l → lt_z a (get_or l i (pos 0)) ≡ false → rises_from a (drop i l) ≡ false
-unfolding rises_from
-rises_not a l i h e = rw (drop-cons l i (pos 0) h, e, rises_from)
-
-pub rises_done : (a : ℤ) (l : List ℤ) (i : ℕ) → length l ≤ i → rises_from a (drop i l) ≡ true
-unfolding rises_from
-rises_done a l i h = rw (drop_of_length-le l h)
-
--- the same of pairs
-pub pairs_begin : (ns ws : List ℤ) → pairs_rise ns ws ≡ pairs_rise_from (get_or ns 0 (pos 0)) (get_or ws 0 (pos 0)) (drop 1 ns) (drop 1 ws)
-unfolding pairs_rise
-pairs_begin [] ws = refl
-pairs_begin (n ∷ []) [] = refl
-pairs_begin (n ∷ (m ∷ ns)) [] = refl
-pairs_begin (n ∷ ns) (w ∷ ws) = refl
-
-pub pairs_on : (n w : ℤ) (ns ws : List ℤ) (i : ℕ) → i < length ns → i < length ws → pair_below n w (get_or ns i (pos 0)) (get_or ws i (pos 0)) ≡ true
-    → pairs_rise_from n w (drop i ns) (drop i ws) ≡ pairs_rise_from (get_or ns i (pos 0)) (get_or ws i (pos 0)) (drop (i + 1) ns) (drop (i + 1) ws)
-unfolding pairs_rise_from
-pairs_on n w ns ws i h k e = rw (add-one, drop-cons ns i (pos 0) h, drop-cons ws i (pos 0) k, e, pairs_rise_from)
-
-pub pairs_not : (n w : ℤ) (ns ws : List ℤ) (i : ℕ) → i < length ns → i < length ws → pair_below n w (get_or ns i (pos 0)) (get_or ws i (pos 0)) ≡ false
-    → pairs_rise_from n w (drop i ns) (drop i ws) ≡ false
-unfolding pairs_rise_from
-pairs_not n w ns ws i h k e = rw (drop-cons ns i (pos 0) h, drop-cons ws i (pos 0) k, e, pairs_rise_from)
-
-pub pairs_done : (n w : ℤ) (ns ws : List ℤ) (i : ℕ) → length ns ≤ i → pairs_rise_from n w (drop i ns) (drop i ws) ≡ true
-unfolding pairs_rise_from
-pairs_done n w ns ws i h = rw (drop_of_length-le ns h)
-
 short : (n w : ℤ) (ns : List ℤ) → pairs_rise_from n w ns [] ≡ true
 unfolding pairs_rise_from
 short n w [] = refl
 short n w (m ∷ ns) = refl
-
-pub pairs_short : (n w : ℤ) (ns ws : List ℤ) (i : ℕ) → length ws ≤ i → pairs_rise_from n w (drop i ns) (drop i ws) ≡ true
-pairs_short n w ns ws i h = rw (drop_of_length-le ws h) (short n w (drop i ns))
-
-pub below_moved : (n w m v : ℤ) (a b c d : ℕ) → Moved n a → Moved w b → Moved m c → Moved v d → pair_below_at a b c d ≡ pair_below n w m v
-below_moved n w m v a b c d p q r s = rw (less_moved n m a c p r, less_moved m n c a r p, less_moved w v b d q s)
 
 -- a set marked with what is left of a list
 pub mark_next : (s : List Bool) (g : Range) (l : List ℤ) (i : ℕ) → i < length l
@@ -147,11 +67,6 @@ mark_next s g l i h = rw (add-one, drop-cons l i (pos 0) h)
 pub mark_done : (s : List Bool) (g : Range) (l : List ℤ) (i : ℕ) → length l ≤ i → marks s (entries g (drop i l)) ≡ s
 unfolding marks
 mark_done s g l i h = rw (drop_of_length-le l h)
-
-pub pair_next : (s : List Bool) (ns ws : List ℤ) (i : ℕ) → i < length ns → i < length ws
-    → marks s (pairs (drop i ns) (drop i ws)) ≡ marks (mark s (pair_slot (get_or ns i (pos 0)) (get_or ws i (pos 0)))) (pairs (drop (i + 1) ns) (drop (i + 1) ws))
-unfolding marks pairs
-pair_next s ns ws i h k = rw (add-one, drop-cons ns i (pos 0) h, drop-cons ws i (pos 0) k)
 
 pub pair_done : (s : List Bool) (ns ws : List ℤ) (i : ℕ) → length ns ≤ i → marks s (pairs (drop i ns) (drop i ws)) ≡ s
 unfolding marks pairs
@@ -164,10 +79,6 @@ no_pair s (n ∷ ns) = refl
 
 pub pair_short : (s : List Bool) (ns ws : List ℤ) (i : ℕ) → length ws ≤ i → marks s (pairs (drop i ns) (drop i ws)) ≡ s
 pair_short s ns ws i h = rw (drop_of_length-le ws h) (no_pair s (drop i ns))
-
-pub pair_moved : (n w : ℤ) (a b : ℕ) → Moved n a → Moved w b → pair_at a b ≡ pair_slot n w
-unfolding pair_at pair_slot
-pair_moved n w a b p q = rw (slot_moved nths n a p, slot_moved weekdays w b q)
 
 -- emptiness, flag by flag
 pub empty_next : (found : Bool) (s : List Bool) (i : ℕ) → i < length s

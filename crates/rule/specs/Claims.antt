@@ -5,7 +5,6 @@ use Rattle.std.specs.Int.Signed.{lt_z}
 use Rattle.rule.specs.declared.rrule.Range.{Range}
 use Rattle.machine.specs.Rising.{Rises}
 use Rattle.rule.specs.declared.rrule.Refusal.{Refusal}
-use Rattle.rule.specs.Refusals.{Verdict}
 use Rattle.rule.specs.declared.rrule.Rule.{Rule}
 use Rattle.rule.specs.Lists.{slots, slot_of, pair_slot}
 use Rattle.rule.specs.Raw.{Raw}

@@ -13,7 +13,6 @@ use Rattle.machine.specs.Compute.{outcome, run}
 use Rattle.machine.specs.Calls.{call, Told, chain, Each}
 use Rattle.machine.specs.Promises.{KeepsTo}
 use Rattle.rule.specs.declared.rrule.Refusal.{Refusal}
-use Rattle.rule.specs.Refusals.{Verdict}
 use Rattle.rule.specs.declared.rrule.Rule.{Rule}
 use Rattle.rule.specs.Instants.{second}
 use Rattle.rule.specs.Raw.{Raw}

@@ -1,12 +1,12 @@
 -- How the code reads a list: an entry as a number without a sign, its slot, and a set marked entry by entry; and how it comes to a verdict, row by
 -- row. Nothing but contracts leans on this.
 -- Assumes nothing.
-use Rattle.std.specs.Prelude.{ℕ, suc, ◌+◌, ◌-◌, ◌<◌, ◌≡◌, Bool, true, false, not, ◌&&◌, ◌||◌, List, [], ◌∷◌, eqb, ltb, leb, ℤ, pos, negsuc, if◌then◌else◌, Option, Ok, Err}
+use Rattle.std.specs.Prelude.{ℕ, suc, ◌+◌, ◌-◌, ◌<◌, ◌≡◌, Bool, true, false, List, [], ◌∷◌, eqb, ltb, leb, ℤ, pos, negsuc, if◌then◌else◌, Option, Ok, Err}
 use Rattle.std.specs.Int.Signed.{mag}
 use Rattle.rule.specs.declared.rrule.Range.{Range}
 use Rattle.rule.specs.declared.rrule.Refusal.{Refusal}
 use Rattle.rule.specs.Refusals.{Verdict}
-use Rattle.rule.specs.Lists.{within, zeros, nths, weekdays, beside, mark}
+use Rattle.rule.specs.Lists.{within, zeros, mark}
 
 -- a 16-bit value moved up by 32,768
 abbrev pub shift : ℤ → ℕ
@@ -24,13 +24,6 @@ slot_at g u =
     if ltb u 32768 then within (leb (32768 - u) g.negatives) (g.negatives - (32768 - u))
     else if eqb u 32768 then within g.zeroin g.negatives
     else within (leb (u - 32768) g.positives) (g.negatives + zeros g + (u - 32768 - 1))
-
-unfoldable pub pair_at : ℕ → ℕ → Option ℕ
-unfolding slot_at
-pair_at n w = beside (slot_at nths n) (slot_at weekdays w)
-
-abbrev pub pair_below_at : ℕ → ℕ → ℕ → ℕ → Bool
-pair_below_at n w m v = ltb n m || (not (ltb m n) && ltb w v)
 
 -- a set marked with each entry in turn
 unfoldable pub marks : List Bool → List (Option ℕ) → List Bool

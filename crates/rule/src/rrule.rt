@@ -12,6 +12,7 @@ pub enum Frequency {
 }
 
 // A list's range: the values -negatives..-1, then 0 if it is in the range, then 1..positives.
+// No invariant bounds it: SlotOfItsValue is of every range. The validator asks for 366 where it reckons.
 #[derive(Clone, Copy)]
 pub struct Range {
     pub negatives: usize,
@@ -21,6 +22,7 @@ pub struct Range {
 
 // A rule record: COUNT is how often, and UNTIL an instant, where there is one. Each list has one slot for each value that its range allows, in
 // rising order.
+// The week start is a number: a record read of bytes can hold any, and the test of a record refuses one above 6 (`yielded`).
 #[derive(Clone, Copy)]
 pub struct Rule {
     pub freq: Frequency,
@@ -58,6 +60,7 @@ pub enum Refusal {
 }
 
 // The lists of a rule as they are given: BYDAY's entries are pairs, whose halves stand in two lists.
+// Two lists, since the C interface lends them so (yomaveludge_check), and a list of pairs made of them would need a heap.
 #[derive(Clone, Copy)]
 pub struct ByLists<'a> {
     pub bymonth: &'a [i16],
@@ -73,6 +76,7 @@ pub struct ByLists<'a> {
 }
 
 // A rule as it is given, but for its start: nothing is checked, and nothing filled in.
+// Frequency and week start are numbers: it is the check that refuses one above 6 (`verdict`). The start stands beside, as a rule's text has none.
 #[derive(Clone, Copy)]
 pub struct Unvalidated<'a> {
     pub freq: u8,

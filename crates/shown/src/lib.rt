@@ -45,6 +45,7 @@ impl fmt::Display for ShownCursor {
 }
 
 // The word of a state.
+// A match here and below: a Display would be the same match, and the clauses promise the word itself, which `ShownCursor` puts into its line.
 pub fn state_word(state: State) -> &'static str
     ensures { result.now ≡ state_text state }
 {

@@ -5,6 +5,7 @@ use rule::rrule::{Frequency, Rule};
 use std::fmt;
 
 // The record of a rule that is refused.
+// Written out: there is no `Default` of arrays this long, so none to derive for `Rule`.
 pub const BLANK: Rule = Rule {
     freq: Frequency::Yearly,
     interval: 0,

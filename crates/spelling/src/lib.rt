@@ -15,6 +15,7 @@ use recur::Symbol;
 use symbols::Best;
 
 // How many bytes of a word begin the text from a place on, in either letter case.
+// `text` and `at` go side by side here and below: the clauses speak of `drop at text.now`, and of the two `at` alone moves on.
 fn in_common(word: &[u8], text: &[u8], at: usize) -> usize
     requires { at ≤ length text.now }
     ensures { InCommon word.now text.now at result }
@@ -26,6 +27,7 @@ fn in_common(word: &[u8], text: &[u8], at: usize) -> usize
 }
 
 // The best match with a word more, unless that is used up: a place above 0 says so. Once a word is found no other is asked.
+// Six parameters and one call: a word of the table with its number and its place, and the text. That 0 is no place, `used_by` says in the clauses.
 fn offered(best: Best, which: usize, place: usize, word: &[u8], text: &[u8], at: usize) -> Best
     requires { at + best.count ≤ length text.now }
     ensures { Offered best which place word.now text.now at result }
@@ -47,6 +49,7 @@ fn offered(best: Best, which: usize, place: usize, word: &[u8], text: &[u8], at:
 }
 
 // The best match of the words of a table, each unless it is used up.
+// `places[which]` is no harder to read than `for (which, (word, place)) in words.iter().zip(places).enumerate()`.
 fn best_of(words: &[&[u8]], places: &[usize], text: &[u8], at: usize) -> Best
     requires { (at ≤ length text.now) × (length places.now ≡ length words.now) }
     ensures { Chosen (map (λ w. w.now) words.now) (used_by places.now) text.now at result }
@@ -77,6 +80,7 @@ fn reached(best: Best, at: usize) -> Result<Symbol<u64>, usize>
 }
 
 // A frequency.
+// Here and below a word is answered by its number in the table: `freq_at`, `weekday_at` and `word names` in the clauses count it so.
 pub fn frequency_at(text: &[u8], at: usize) -> Result<Symbol<u64>, usize>
     requires { at ≤ length text.now }
     ensures { result ≡ shown (freq_at at (drop at text.now)) }
@@ -103,6 +107,7 @@ pub fn weekday_at(text: &[u8], at: usize) -> Result<Symbol<u64>, usize>
 }
 
 // A part's name with its `=`, unless it is used up: `places` tells where the values of the parts before stand, and 0 where a name is open.
+// 0 and no Option: `used_by` in the clause and the theorem `ValuesByPlaces` of recur read the places as numbers, 0 for none.
 pub fn name_at(text: &[u8], at: usize, places: [usize; 14]) -> Result<Symbol<u64>, usize>
     requires { at ≤ length text.now }
     ensures { result ≡ shown (word names (used_by places) at (drop at text.now)) }

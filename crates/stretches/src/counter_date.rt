@@ -14,6 +14,7 @@ pub struct Days {
 }
 
 // What stands for the days of a period after 9999.
+// No Option: the clause `days_in` promises days for every number, and a run asks of periods in range alone.
 const NO_DAYS: Days = Days { from: 0, to: 0 };
 
 // The days of the period with this number, and none where it begins after 9999.

@@ -36,6 +36,7 @@ fn hop_of(step: u64, perday: u64) -> u64
 }
 
 // The tick of the next period: a hop further, with one carry at midnight.
+// No `%`: the search asks it at each tick, and a division costs more than the test.
 fn tick_after(tick: u64, perday: u64, hop: u64) -> u64
     requires { (tick < perday) × (hop < perday) × (perday ≤ 86400) }
     ensures { result ≡ (tick + hop) % perday }

@@ -32,10 +32,7 @@ pub fn open_times(freq: Frequency, begins: u32, flags: &[bool; 144], counts: Cou
 fn flag_in(flags: &[bool], value: u32) -> bool
     ensures { result ≡ get_or flags.now value false }
 {
-    match flags.get(value as usize) {
-        Some(flag) => *flag,
-        None => false,
-    }
+    flags.get(value as usize).copied().unwrap_or(false)
 }
 
 // All that pass, or the one that is fixed, if that passes.
@@ -97,8 +94,5 @@ fn value_at(coarser: bool, list: &[u8], place: u32, fixed: u32) -> u32
     if !coarser {
         return fixed;
     }
-    match list.get(place as usize) {
-        Some(value) => *value as u32,
-        None => 0,
-    }
+    list.get(place as usize).copied().unwrap_or(0) as u32
 }

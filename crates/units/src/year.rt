@@ -6,6 +6,7 @@ use calendar::utils::year_of_day;
 use weeks::yearinfo::Year;
 
 // Whether a day lies in a year.
+// Not by the `contains` of a range: its end is a sum, which could wrap.
 pub fn covers(year: Year, day: u64) -> bool
     ensures { result ≡ is_in_year year day }
 {
@@ -17,6 +18,7 @@ pub fn covers(year: Year, day: u64) -> bool
 }
 
 // A day as a u32; 0 where it is far out of range.
+// No Option: the clause `day_in` has a number for every day.
 fn day_in(day: u64) -> u32
     ensures { result ≡ day_in day }
 {

@@ -170,6 +170,7 @@ fn is_below(n: i16, w: i16, m: i16, v: i16) -> bool
 }
 
 // Whether BYDAY's pairs rise strictly, by n, then weekday.
+// Two lists side by side here and below, as the C interface lends them (yomaveludge_check): no heap for a list of pairs.
 pub(crate) fn are_rising(ns: &[i16], ws: &[i16]) -> bool
     ensures { result ≡ pairs_rise ns.now ws.now }
 {
@@ -191,6 +192,7 @@ pub(crate) fn mark_list(range: Range, list: &[i16], flags: &mut [bool])
 }
 
 // Marks BYDAY's set with its pairs.
+// Beside mark_list, since one function over an iterator of slots is no plainer: both loops are of one line.
 pub(crate) fn mark_pairs(ns: &[i16], ws: &[i16], flags: &mut [bool])
     ensures { flags.new ≡ marks flags.old (pairs ns.now ws.now) }
 {
@@ -208,6 +210,7 @@ fn pair_slot(n: i16, w: i16) -> Option<usize>
     Some(a * 7 + b)
 }
 
+// No get_mut: it is as long, and lends a slot where a store is enough.
 fn mark_slot(slot: Option<usize>, flags: &mut [bool])
     ensures { flags.new ≡ mark flags.old slot }
 {

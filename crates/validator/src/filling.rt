@@ -18,6 +18,7 @@ pub(crate) fn no_days(rule: &Rule) -> bool
 }
 
 // The record, filled in from its start, which is in range.
+// The frequency by its number, as the definitions `same` and `is_below` have it (rule specs/Filling).
 pub(crate) fn filled(rule: &Rule) -> Rule
     requires { rule.now.start ≤ 253402300799 }
     ensures { result ≡ fill rule.now }

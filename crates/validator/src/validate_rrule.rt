@@ -65,6 +65,7 @@ fn marked<const N: usize>(range: Range, list: &[i16]) -> [bool; N]
 }
 
 // The set of BYDAY's pairs.
+// Beside `marked`: one function of both would take the marking as a closure, and be no plainer.
 fn marked_pairs(ns: &[i16], ws: &[i16]) -> [bool; 749]
     ensures { result ≡ set_of 749 (pairs ns.now ws.now) }
 {

@@ -17,6 +17,7 @@ pub enum Why {
 }
 
 // What a call holds between two turns: the cursor, the moves made and the count handed out in this call.
+// The count stands beside the buffer, which is C's (yomaveludge_run).
 #[derive(Clone, Copy)]
 pub struct Held {
     pub cursor: Cursor,
@@ -76,6 +77,7 @@ pub fn is_framed(frame: Frame) -> bool
 }
 
 // A period's candidates: their frame, the places of their days in the year, and the hours, minutes and seconds of their times, in a row.
+// Whole arrays, with their counts in the frame: no heap, and a period that holds the arrays can't hold slices of them.
 #[derive(Clone, Copy)]
 pub struct Candidates<'a> {
     pub frame: Frame,
@@ -104,6 +106,7 @@ impl<'a> Candidates<'a> {
     }
 
     // The candidate of this number, as a second; 0 where a sum could wrap.
+    // No Option: the clause `candidate_at` has a second for every number.
     pub fn candidate_at(&self, number: u32) -> u64
         ensures { result ≡ candidate_at self.now.frame self.now.days.now self.now.lists.now number }
     {

@@ -135,6 +135,7 @@ fn number_passes(weeknos: &[bool; 106], number: usize, count: usize) -> bool
 }
 
 // Marks the places of a mask from one up to another.
+// No `fill`: what it promises is told of clones, and a loop of one line is as plain.
 fn mark(mask: &mut [bool; 373], from: usize, to: usize)
     requires { (from ≤ to) × (to ≤ 373) }
     ensures { Marked from to mask.old mask.new }

@@ -19,6 +19,7 @@ pub(crate) fn cursor_in(text: &[u8]) -> Option<Cursor> {
     }
 }
 
+// A match: a TryFrom would be the same match, and could only stand in machine, which has no words.
 fn state_of(word: &[u8]) -> Option<State> {
     match word {
         b"running" => Some(State::Running),

@@ -12,6 +12,7 @@ use std::fmt;
 const LONGEST: usize = 65536;
 
 // What a line asks for.
+// FREQ and WKST are numbers, as `Unvalidated` takes them: a line may give the check a number that is none.
 #[derive(Drop)]
 pub struct Line {
     pub freq: u8,

@@ -27,6 +27,7 @@ pub(crate) fn read_between(least: u32, most: u32, text: &[u8]) -> Option<u32> {
 }
 
 // What stands for 1 or 0.
+// By a match: bool has no TryFrom of a number.
 pub(crate) fn flag(text: &[u8]) -> Option<bool> {
     match number(text)? {
         0 => Some(false),
@@ -35,6 +36,7 @@ pub(crate) fn flag(text: &[u8]) -> Option<bool> {
     }
 }
 
+// Digits by hand: `parse` wants a &str, and takes a + in front, which a line may not have.
 fn size(digits: &[u8]) -> Option<u64> {
     if digits.is_empty() || 20 < digits.len() {
         return None;
@@ -46,6 +48,7 @@ fn size(digits: &[u8]) -> Option<u64> {
     Some(size)
 }
 
+// An `if` and no `then`: a closure isn't told that the byte is a digit.
 fn digit(byte: u8) -> Option<u64> {
     if byte.is_ascii_digit() {
         Some(u64::from(byte - b'0'))

@@ -1,6 +1,7 @@
 // The ranges of a record's lists.
 use rule::rrule::Range;
 
+// validator has these nine too, for the check: the slips record-month-day-minus-31 and record-week-minus-54 are of a record's alone.
 pub(crate) const MONTHS: Range = Range {
     negatives: 0,
     zeroin: false,
@@ -56,6 +57,7 @@ pub(crate) const POSITIONS: Range = Range {
 };
 
 // Whether a range holds a value.
+// validator's `is_outside` asks it too, by slots and within its crate: words doesn't stand on validator.
 pub(crate) fn holds(range: Range, value: i16) -> bool {
     let size = usize::from(value.unsigned_abs());
     if value < 0 {

@@ -13,6 +13,7 @@ use weeks::yearinfo::{Year, week_no_mask, year_info};
 
 // A year with its tables (the month of each place, its day of the month, and that from the month's end) and its masks. Each is blank
 // where the rule has no use for it.
+// Blank and no Option: the definition `info_of` has it so, and each day would ask again what Asked has told.
 #[derive(Clone, Copy)]
 pub struct IterInfo {
     pub year: Year,
