@@ -5,7 +5,8 @@ use basics::rrule::fresh;
 use machine::Cursor;
 use output::Out;
 use rule::rrule::{Refusal, Rule};
-use shown::{BLANK, ShownRecord, ShownRefusal};
+use shown::{ShownRecord, ShownRefusal};
+use validator::validate_rrule::blank_rule;
 use words::Line;
 
 // Writes the answer of a line without its end.
@@ -39,7 +40,7 @@ fn write_checked(checked: Result<Rule, Refusal>, out: &mut Out) {
         }
         Err(refusal) => {
             out.put(ShownRefusal(refusal));
-            out.put(ShownRecord(&BLANK));
+            out.put(ShownRecord(&blank_rule()));
         }
     }
 }

@@ -9,7 +9,7 @@ ghost use Rattle.shown.specs.Texts.{state_text, cause_text, cursor_text};
 
 use basics::rrule::refusal_number;
 use machine::{Cause, Cursor, State};
-pub use record::{BLANK, ShownRecord};
+pub use record::ShownRecord;
 use rule::rrule::Refusal;
 use std::fmt;
 

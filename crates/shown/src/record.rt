@@ -1,28 +1,8 @@
 // A record whole, with its fresh cursor.
 use crate::ShownCursor;
 use basics::rrule::fresh;
-use rule::rrule::{Frequency, Rule};
+use rule::rrule::Rule;
 use std::fmt;
-
-// The record of a rule that is refused.
-// Written out: there is no `Default` of arrays this long, so none to derive for `Rule`.
-pub const BLANK: Rule = Rule {
-    freq: Frequency::Yearly,
-    interval: 0,
-    count: None,
-    until: None,
-    wkst: 0,
-    start: 0,
-    bymonth: [false; 12],
-    bymonthday: [false; 62],
-    byyearday: [false; 732],
-    byweekno: [false; 106],
-    byday: [false; 749],
-    byhour: [false; 24],
-    byminute: [false; 60],
-    bysecond: [false; 60],
-    bysetpos: [false; 732],
-};
 
 #[derive(Clone, Copy)]
 pub struct ShownRecord<'a>(pub &'a Rule);

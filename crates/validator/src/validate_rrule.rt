@@ -2,7 +2,7 @@
 ghost use Rattle.std.specs.Prelude.{◌≡◌, ◌≤◌, Ok};
 ghost use Rattle.rule.specs.Lists.{set_of};
 ghost use Rattle.rule.specs.Raw.{entries, pairs, lists_of, raw_of};
-ghost use Rattle.rule.specs.Filling.{given, checked};
+ghost use Rattle.rule.specs.Filling.{blank, given, checked};
 ghost use Rattle.rule.specs.Refusals.{entry_out, not_rising, positions_alone, verdict};
 ghost use Rattle.rule.specs.Entries.{or_refused};
 
@@ -13,7 +13,7 @@ use crate::entries::{
 use crate::filling::filled;
 use basics::rrule::{count_and_until, frequency_of, has_nought, is_misplaced, is_until_out};
 use calendar::utils::LAST_INSTANT;
-use rule::rrule::{ByLists, Range, Refusal, Rule, Unvalidated};
+use rule::rrule::{ByLists, Frequency, Range, Refusal, Rule, Unvalidated};
 
 // Whether an entry of a list lies outside its range, or one of BYDAY lacks a half.
 fn entry_out(lists: &ByLists) -> bool
@@ -145,6 +145,30 @@ pub fn verdict_of(given: &Unvalidated, start: u64) -> Result<(), Refusal>
         .and(row(nought, Refusal::Nought))
         .and(row(both, Refusal::CountAndUntil))
         .and(row(stray, Refusal::ListMisplaced))
+}
+
+// The record that holds nothing: the line program shows it of a rule that the check refuses.
+// Written out: there is no `Default` of arrays this long, so none to derive for `Rule`.
+pub fn blank_rule() -> Rule
+    ensures { result ≡ blank }
+{
+    Rule {
+        freq: Frequency::Yearly,
+        interval: 0,
+        count: None,
+        until: None,
+        wkst: 0,
+        start: 0,
+        bymonth: [false; 12],
+        bymonthday: [false; 62],
+        byyearday: [false; 732],
+        byweekno: [false; 106],
+        byday: [false; 749],
+        byhour: [false; 24],
+        byminute: [false; 60],
+        bysecond: [false; 60],
+        bysetpos: [false; 732],
+    }
 }
 
 // The check: the record, filled in; or the lowest refusal that applies.
