@@ -57,10 +57,9 @@ impl fmt::Display for Tally {
 
 // Whether an answer is the known one, or begins so and goes on behind a space.
 fn begins_with(answer: &[u8], known: &[u8]) -> bool {
-    match answer.strip_prefix(known) {
-        Some(rest) => rest.is_empty() || rest[0] == b' ',
-        None => false,
-    }
+    answer
+        .strip_prefix(known)
+        .is_some_and(|rest| rest.is_empty() || rest[0] == b' ')
 }
 
 fn write_different(line: &[u8], answer: &[u8]) {

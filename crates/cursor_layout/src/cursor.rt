@@ -62,7 +62,7 @@ pub fn cursor_in(bytes: &[u8]) -> Cursor
 }
 
 // The cursor that bytes hold, if they hold one.
-// An `if` and no `then`: its closure would have to carry the fact of the length. With decode_record as one it is no plainer.
+// An `if` and no `then`: its closure would have to carry the fact of the length.
 pub fn decode_cursor(bytes: &[u8]) -> Option<Cursor>
     ensures { result ≡ decode_cursor bytes.now }
 {

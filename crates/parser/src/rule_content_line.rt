@@ -84,7 +84,7 @@ fn scan(text: &[u8]) -> Result<Symbol<[usize; 14]>, usize>
 }
 
 // The numbers behind the names, and what holds where a name is missing.
-// The five differ in reader, default and type: one function over a closure would leave each of them its call and its cast.
+// The five differ in reader, default or type: one function over a closure would leave each of them its call and its cast.
 // Here and below 0 is no place, as `Standing` and `value_by` in the clauses have it.
 fn freq_in(text: &[u8], place: usize) -> u8
     requires { Standing frequency place text.now }

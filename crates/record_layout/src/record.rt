@@ -37,6 +37,7 @@ pub fn is_record_bytes(bytes: &[u8]) -> bool
 }
 
 // What bytes of another length are read as: the record of no bytes at all.
+// Alike to validator's `blank_rule` by its numbers alone: this one is what the clause's `record_in []` says, and the layout may change.
 fn record_of_none() -> Rule
     ensures { result ≡ record_in [] }
 {

@@ -18,12 +18,7 @@ where
 
 // The number of a text, where it is between two bounds.
 pub(crate) fn read_between(least: u32, most: u32, text: &[u8]) -> Option<u32> {
-    let number = read(text)?;
-    if (least..=most).contains(&number) {
-        Some(number)
-    } else {
-        None
-    }
+    read(text).filter(|number| (least..=most).contains(number))
 }
 
 // What stands for 1 or 0.
