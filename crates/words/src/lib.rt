@@ -7,6 +7,7 @@ pub mod lists;
 mod manner;
 mod numbers;
 mod ranges;
+pub mod rows;
 mod text;
 mod words;
 
