@@ -14,6 +14,7 @@ const SIZE: usize = 65536;
 #[derive(Drop)]
 pub struct Out {
     pub waiting: ArrayVec<u8, SIZE>,
+    pub ghost bounded: { length waiting.items ≤ 65536 },
 }
 
 impl Out {
@@ -37,7 +38,9 @@ impl Out {
     }
 
     // Puts a value as text. Writing into memory doesn't fail.
-    pub fn put<D: Display + Drop>(&mut self, value: D) {
+    pub fn put<D: Display + Drop>(&mut self, value: D)
+        ensures { length self.new.waiting.items ≤ 65536 }
+    {
         let _ = write!(self, "{value}");
     }
 
