@@ -1,12 +1,12 @@
 -- Bytes that are put one part behind the other.
 -- Assumes nothing.
-use Prim.Native.Nat.{ℕ, suc, ◌+◌, ◌≤◌, ◌<◌}
+use Prim.Native.Nat.{ℕ, suc, ◌+◌, ◌-◌, ◌≤◌, ◌<◌}
 use mathlib.Core.Path.{◌≡◌, refl, sym, ap, ◌∙◌}
-use mathlib.Core.List.{List, [], ◌∷◌, ◌++◌}
+use mathlib.Core.List.{List, [], ◌∷◌, ◌++◌, append_assoc}
 use native.Mathlib.Omega.{arith}
-use native.Mathlib.Numerals.{add-one}
-use lib.ListN.{length, get_or, set, drop, length-append}
-use lib.Seq.{sets, set_out, drop-cons}
+use borrow.Rule.Slice.PartMut.{put_mid}
+use lib.ListN.{length, set, take, drop, length-append, length-drop, take-append-drop}
+use lib.Seq.{sets, set_out, sets-eq, length-sets, length-take-le, drop-drop}
 use Rattle.puts.specs.declared.bytes.Text.{Text}
 use Rattle.puts.specs.Put.{Puts, Room}
 
@@ -21,6 +21,25 @@ sets_append l i (x ∷ xs) ys =
 pub sets_out : (l : List ℕ) (i : ℕ) (xs : List ℕ) → length l ≤ i → sets l i xs ≡ l
 sets_out l i [] h = refl
 sets_out l i (x ∷ xs) h = ap (λ (z : List ℕ). sets z (suc i) xs) (set_out l i x h) ∙ sets_out l (suc i) xs (omega arith)
+
+-- a word is copied as far as the list reaches: n bytes of it, and what is left lies past the end
+pub copied : (l w ys : List ℕ) (i k n : ℕ) → i + n ≤ length l → n ≤ length w → (n < length w → length l ≤ i + n) → k ≡ n → ys ≡ take n w
+    → put_mid i k l ys ≡ sets l i w
+copied l w ys i k n fits few rest e f =
+    let t : length (take n w) ≡ n = length-take-le n w few in
+    let d : length (drop n w) ≡ length w - n = length-drop n w in
+    let is : length (sets l i (take n w)) ≡ length l = length-sets l i (take n w) in
+    ap (λ (j : ℕ). put_mid i j l ys) e ∙ ap (λ (zs : List ℕ). put_mid i n l zs) f
+    ∙ sym (append_assoc (take i l) (take n w) (drop n (drop i l)))
+    ∙ ap (λ (zs : List ℕ). take i l ++ take n w ++ zs) (drop-drop n i l ∙ ap (λ (j : ℕ). drop j l) (let z : i + n ≡ i + length (take n w) = omega arith in z))
+    ∙ sym (sets-eq (take n w) l i (omega arith))
+    ∙ sym (past (drop n w) (sets l i (take n w)) (i + length (take n w)) (λ h. let r = rest (omega arith) in omega arith))
+    ∙ sym (sets_append l i (take n w) (drop n w))
+    ∙ ap (λ (zs : List ℕ). sets l i zs) (take-append-drop n w)
+  where
+    past : (xs m : List ℕ) (j : ℕ) → (0 < length xs → length m ≤ j) → sets m j xs ≡ m
+    past [] m j h = refl
+    past (x ∷ xs) m j h = sets_out m j (x ∷ xs) (h (omega arith))
 
 -- nothing is put
 pub put_none : (t : Text) → Puts t [] t
@@ -57,10 +76,6 @@ put_both {t} {u} {v} {xs} {ys} {zs} e p q =
       behind = omega arith;
       same_buffer = q.same_buffer ∙ p.same_buffer;
     }
-
--- a word, byte by byte
-pub word_next : (word : List ℕ) (i : ℕ) → i < length word → (get_or word i 0 ∷ []) ++ drop (i + 1) word ≡ drop i word
-word_next word i h = ap (λ (k : ℕ). get_or word i 0 ∷ drop k word) (add-one i) ∙ sym (drop-cons word i 0 h)
 
 -- What is left to put completes the bytes: of a loop that puts them part by part.
 pub record Left (text : Text) (rest : List ℕ) (from : Text) (bytes : List ℕ) : Type 0 where

@@ -36,8 +36,10 @@ impl Text<'_> {
         requires { Room self.old.place word.now }
         ensures { Puts self.old word.now self.new }
     {
-        for byte in word {
-            self.put_byte(*byte);
+        if self.place < self.bytes.len() {
+            let fitting = word.len().min(self.bytes.len() - self.place);
+            self.bytes[self.place..self.place + fitting].copy_from_slice(&word[..fitting]);
         }
+        self.place += word.len();
     }
 }

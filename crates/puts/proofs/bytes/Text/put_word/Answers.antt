@@ -1,17 +1,26 @@
--- `puts::bytes::Text::put_word` meets its contract: what is left of the word completes the text.
+-- `puts::bytes::Text::put_word` meets its contract: what of the word lies past the end isn't stored.
 -- Assumes nothing.
-use lib.ListN.{drop_of_length-le}
-use Rattle.puts.proofs.PutLaws.{first_room, word_next, left_all, left_room, left_next, left_none}
+use Rattle.std.proofs.Common.{rules}
+use Prim.Native.Nat.{◌+◌, ◌-◌, min}
+use native.Mathlib.Omega.{arith}
+use mathlib.Core.Path.{◌≡◌, refl, sym}
+use lib.ListN.{length}
+use Rattle.puts.proofs.PutLaws.{copied, sets_out}
 use Rattle.puts.proofs.bytes.Text.put_word.Goals as goal
-
-pub loop-byte-init : goal.loop-byte-init
-loop-byte-init c = left_all _ _
-
-pub put_byte-requires : goal.put_byte-requires
-put_byte-requires c = first_room _ (word_next _ _ c.loop-byte-test.true) (left_room c.loop-byte.invariant c.requires)
-
-pub loop-byte-preserved : goal.loop-byte-preserved
-loop-byte-preserved c = left_next c.loop-byte.invariant _ (word_next _ _ c.loop-byte-test.true) c.put_byte.ensures
+use Rattle.puts.proofs.bytes.Text.put_word.Goals.{then-self, else-self}
 
 pub returns : goal.returns
-returns c = left_none c.loop-byte.invariant (drop_of_length-le _ c.loop-byte-test.false)
+returns c =
+    let t = c.args.self.now.bytes.now in
+    let i = c.args.self.now.place in
+    elim c.if-self.branch [
+      | then-self w ↦
+          let n = w.min-fitting.result in
+          let fitting : n ≡ min (length c.args.word.now) (length t - i) = w.min-fitting.ensures in
+          rw w.self-is (record {
+            stands = copied t c.args.word.now _ i (i + n - i) n (omega arith) (omega arith) (λ h. omega arith) (omega arith) (search rules);
+            behind = refl;
+            same_buffer = refl;
+          })
+      | else-self w ↦ rw w.self-is (record { stands = sym (sets_out t i c.args.word.now (omega arith)); behind = refl; same_buffer = refl })
+    ]
