@@ -12,13 +12,16 @@ use Rattle.symbols.specs.Languages.{Both}
 use Rattle.symbols.specs.Takes.{Took}
 use Rattle.symbols.specs.Readers.{head_is, behind, single, after, goes_on, joined, turned, turned_into}
 use Rattle.recur.specs.declared.Symbol.{Symbol}
+use Rattle.recur.specs.declared.Day.{Day}
 use Rattle.recur.specs.Grammar.{comma, stays}
 use Rattle.recur.specs.Reading.{entry_at, day_at, entries_at, days_at}
-use Rattle.recur.specs.Shown.{shown}
+use Rattle.recur.specs.Shown.{shown, shown_as, day_of}
+use Rattle.recur.proofs.Instances.{takes_day}
 use Rattle.recur.proofs.Parted.{joined_by, behind_drop}
 use Rattle.recur.proofs.ShownLaws.{whole_is, place_is, value_is}
 use Rattle.numerals.proofs.ByteLaws.{stands}
 use Rattle.comma_lists.specs.Lists.{Within, list_of}
+use Rattle.comma_lists.specs.Inside.{takes_within}
 
 -- ---- readers of lists
 
@@ -69,6 +72,10 @@ pub list_of_days : (f : Both ℤ ℕ → ℤ) (n at : ℕ) (t : List ℕ)
     → list_of (turned f day_at) n at t ≡ turned_into (λ (ds : List (Both ℤ ℕ)). map f ds) (days_at n at t)
 unfolding list_of days_at
 list_of_days f n at t = turned_list f day_at n at t
+
+pub day_lists : Lists day_at days_at
+unfolding list_of days_at
+day_lists = lists day_at (takes_within takes_day)
 
 -- What the code has seen of the entry at a place: whether it is whole, and the place behind it.
 pub record Seen {A : Type 0} (take : ℕ → List ℕ → Took A) (t : List ℕ) (at : ℕ) (whole : Bool) (place : ℕ) : Type 0 where
@@ -127,3 +134,10 @@ module _ (take : ℕ → List ℕ → Took ℤ) (t : List ℕ) (at : ℕ) {e : S
 
   pub entry_value : e.value ≡ (take at (drop at t)).value
   entry_value = value_is (λ (z : ℤ). z) (take at (drop at t)) e d
+
+module _ (t : List ℕ) (at : ℕ) {e : Symbol Day} (d : Ok e ≡ shown_as day_of (day_at at (drop at t))) where
+  pub seen_day : Seen day_at t at true e.place
+  seen_day = record { whole_is = sym (whole_is day_of (day_at at (drop at t)) e d); place_is = place_is day_of (day_at at (drop at t)) e d }
+
+  pub day_value : e.value ≡ day_of (day_at at (drop at t)).value
+  day_value = value_is day_of (day_at at (drop at t)) e d

@@ -5,7 +5,7 @@ use Rattle.symbols.specs.Takes.{Took, Takes}
 use Rattle.recur.specs.Reading.{entry_at}
 use Rattle.recur.proofs.Parted.{rest_is, place_in}
 use Rattle.recur.proofs.Instances.{takes_entry, takes_day}
-use Rattle.comma_lists.specs.Lists.{Within, nth_of_day, weekday_of_day}
+use Rattle.comma_lists.specs.Lists.{Within, nth_of_day}
 
 pub takes_within : {A : Type 0} {take : ℕ → List ℕ → Took A} {L : A → List ℕ → Type 0} {P : ℕ → Type 0} → Takes A take L P
     → (at : ℕ) (t : List ℕ) → at ≤ length t → Within t at (take at (drop at t))
@@ -16,6 +16,3 @@ entry_within signs at t h = takes_within (takes_entry signs) at t h
 
 pub nth_in_text : (at : ℕ) (t : List ℕ) → at ≤ length t → Within t at (nth_of_day at (drop at t))
 nth_in_text at t h = let w = takes_within takes_day at t h in record { rest = w.rest; from = w.from; to = w.to }
-
-pub weekday_in_text : (at : ℕ) (t : List ℕ) → at ≤ length t → Within t at (weekday_of_day at (drop at t))
-weekday_in_text at t h = let w = takes_within takes_day at t h in record { rest = w.rest; from = w.from; to = w.to }

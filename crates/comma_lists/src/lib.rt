@@ -7,8 +7,8 @@ ghost use Rattle.symbols.specs.Takes.{Took};
 ghost use Rattle.recur.specs.Grammar.{nth_of, weekday_of};
 ghost use Rattle.recur.specs.Reading.{day_at, entry_at, entries_at, days_at};
 ghost use Rattle.recur.specs.Shown.{shown, shown_as, stopped, day_of};
-ghost use Rattle.comma_lists.specs.Lists.{Within, list_of, nth_of_day, weekday_of_day};
-ghost use Rattle.comma_lists.specs.Inside.{entry_within, nth_in_text, weekday_in_text};
+ghost use Rattle.comma_lists.specs.Lists.{Within, list_of, nth_of_day};
+ghost use Rattle.comma_lists.specs.Inside.{entry_within, nth_in_text};
 
 use numerals::{entry_at, is_at, nth_at};
 use recur::{Day, Symbol};
@@ -59,25 +59,6 @@ impl Entries for Nths {
         Ok(Symbol {
             place: day.place,
             value: day.value.nth,
-        })
-    }
-}
-
-// Their weekdays.
-// Like `Nths` but for the half: one type with a flag would have to branch in `take`, `within` and `read` alike.
-#[derive(Clone, Copy)]
-struct Weekdays;
-
-impl Entries for Weekdays {
-    ghost take = { λ x. weekday_of_day };
-
-    ghost within = { λ x at t h. weekday_in_text at t h };
-
-    fn read(&self, text: &[u8], at: usize) -> Result<Symbol<i16>, usize> {
-        let day = day_at(text, at)?;
-        Ok(Symbol {
-            place: day.place,
-            value: day.value.weekday,
         })
     }
 }
@@ -163,6 +144,7 @@ pub fn fill_entries(text: &[u8], at: usize, signs: bool, list: &mut [i16]) -> us
 }
 
 // Puts the days of a list that is whole into the first slots of BYDAY's two lists, and answers how many they are.
+// Each day is read once, and both its halves are put: two calls of `fill` would read the list twice.
 // Two lists and a count, as `fill_entries` tells; BYDAY's halves are two lists in `ByLists` and the C interface.
 pub fn fill_days(text: &[u8], at: usize, ns: &mut [i16], ws: &mut [i16]) -> usize
     requires { (at ≤ length text.now) × ((days_at 748 at (drop at text.now)).whole ≡ true) }
@@ -170,8 +152,20 @@ pub fn fill_days(text: &[u8], at: usize, ns: &mut [i16], ws: &mut [i16]) -> usiz
         × (ws.new ≡ sets ws.old 0 (map weekday_of (days_at 748 at (drop at text.now)).value))
         × (result ≡ length (days_at 748 at (drop at text.now)).value) }
 {
-    fill(&Nths, text, at, ns);
-    fill(&Weekdays, text, at, ws)
+    let mut place = at;
+    for count in 0..MORE {
+        let day = day_at(text, place).unwrap();
+        store(ns, count, day.value.nth);
+        store(ws, count, day.value.weekday);
+        if !is_at(text, day.place, b',') {
+            return count + 1;
+        }
+        place = day.place + 1;
+    }
+    let last = day_at(text, place).unwrap();
+    store(ns, MORE, last.value.nth);
+    store(ws, MORE, last.value.weekday);
+    MORE + 1
 }
 
 // Puts an entry into a slot, where the list has it.

@@ -11,7 +11,7 @@ use Rattle.comma_lists.proofs.FillLaws.{stored_on, fills_first, entry_whole, fil
 use Rattle.comma_lists.proofs.fill.Goals as goal
 
 pub loop-slot-init : goal.loop-slot-init
-loop-slot-init g c = (fills_first _ _ _ _ c.requires.0 c.requires.1 refl, record { slots = refl })
+loop-slot-init g c = (fills_first _ _ _ _ c.requires.0 c.requires.1 (omega arith), record { slots = refl })
 
 pub read-requires : goal.read-requires
 read-requires g c = c.loop-slot.invariant.0.inside
