@@ -79,6 +79,18 @@ pub no_word_left : (words : List (List ℕ)) (seen : List Bool) (t : List ℕ) (
 unfolding chosen_from
 no_word_left words seen t i k h = ap (λ (n : ℕ). choose words seen n i k t) (let e : length words - i ≡ 0 = omega arith in e)
 
+-- once a word is found no other is asked
+pub found_stays : (words : List (List ℕ)) (seen : List Bool) (t : List ℕ) (i : ℕ) (k : Best) → has_word k ≡ true → chosen_from words seen t i k ≡ k
+unfolding chosen_from choose offer
+found_stays words seen t i k e = go (length words - i) i
+  where
+    go : (n j : ℕ) → choose words seen n j k t ≡ k
+    go zero j = refl
+    go (suc n) j =
+        ap (λ (x : Bool). choose words seen n (j + 1) (pick x k (pick (is_used seen j) k
+        (better (common (word_at words j) t) (length (word_at words j)) j k))) t) e
+        ∙ go n (j + 1)
+
 -- a name is used up where its value has a place
 used_by_lem : (places : List ℕ) (i : ℕ) → i < length places → is_used (used_by places) i ≡ ltb 0 (get_or places i 0)
 used_by_lem [] i h = absurd (omega arith)

@@ -60,6 +60,9 @@ fn best_of(words: &[&[u8]], places: &[usize], text: &[u8], at: usize) -> Best
     };
     for (which, word) in words.iter().enumerate() {
         best = offered(best, which, places[which], word, text, at);
+        if best.which.is_some() {
+            return best;
+        }
     }
     best
 }
@@ -79,32 +82,54 @@ fn reached(best: Best, at: usize) -> Result<Symbol<u64>, usize>
     }
 }
 
+// The frequencies, each at its number.
+const FREQUENCIES: [&[u8]; 7] = [
+    b"YEARLY",
+    b"MONTHLY",
+    b"WEEKLY",
+    b"DAILY",
+    b"HOURLY",
+    b"MINUTELY",
+    b"SECONDLY",
+];
+
 // A frequency.
 // Here and below a word is answered by its number in the table: `freq_at`, `weekday_at` and `word names` in the clauses count it so.
 pub fn frequency_at(text: &[u8], at: usize) -> Result<Symbol<u64>, usize>
     requires { at ≤ length text.now }
     ensures { result ≡ shown (freq_at at (drop at text.now)) }
 {
-    let words: [&[u8]; 7] = [
-        b"YEARLY",
-        b"MONTHLY",
-        b"WEEKLY",
-        b"DAILY",
-        b"HOURLY",
-        b"MINUTELY",
-        b"SECONDLY",
-    ];
-    reached(best_of(&words, &[0; 7], text, at), at)
+    reached(best_of(&FREQUENCIES, &[0; 7], text, at), at)
 }
+
+// The weekdays, each at its number.
+const WEEKDAYS: [&[u8]; 7] = [b"MO", b"TU", b"WE", b"TH", b"FR", b"SA", b"SU"];
 
 // A weekday.
 pub fn weekday_at(text: &[u8], at: usize) -> Result<Symbol<u64>, usize>
     requires { at ≤ length text.now }
     ensures { result ≡ shown (weekday_at at (drop at text.now)) }
 {
-    let words: [&[u8]; 7] = [b"MO", b"TU", b"WE", b"TH", b"FR", b"SA", b"SU"];
-    reached(best_of(&words, &[0; 7], text, at), at)
+    reached(best_of(&WEEKDAYS, &[0; 7], text, at), at)
 }
+
+// The names of parts, each at its number.
+const NAMES: [&[u8]; 14] = [
+    b"FREQ=",
+    b"INTERVAL=",
+    b"COUNT=",
+    b"UNTIL=",
+    b"WKST=",
+    b"BYMONTH=",
+    b"BYMONTHDAY=",
+    b"BYYEARDAY=",
+    b"BYWEEKNO=",
+    b"BYDAY=",
+    b"BYHOUR=",
+    b"BYMINUTE=",
+    b"BYSECOND=",
+    b"BYSETPOS=",
+];
 
 // A part's name with its `=`, unless it is used up: `places` tells where the values of the parts before stand, and 0 where a name is open.
 // 0 and no Option: `used_by` in the clause and the theorem `ValuesByPlaces` of recur read the places as numbers, 0 for none.
@@ -112,21 +137,5 @@ pub fn name_at(text: &[u8], at: usize, places: [usize; 14]) -> Result<Symbol<u64
     requires { at ≤ length text.now }
     ensures { result ≡ shown (word names (used_by places) at (drop at text.now)) }
 {
-    let words: [&[u8]; 14] = [
-        b"FREQ=",
-        b"INTERVAL=",
-        b"COUNT=",
-        b"UNTIL=",
-        b"WKST=",
-        b"BYMONTH=",
-        b"BYMONTHDAY=",
-        b"BYYEARDAY=",
-        b"BYWEEKNO=",
-        b"BYDAY=",
-        b"BYHOUR=",
-        b"BYMINUTE=",
-        b"BYSECOND=",
-        b"BYSETPOS=",
-    ];
-    reached(best_of(&words, &places, text, at), at)
+    reached(best_of(&NAMES, &places, text, at), at)
 }
