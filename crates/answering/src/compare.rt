@@ -14,8 +14,9 @@ pub(crate) struct Tally {
 }
 
 impl Tally {
-    pub(crate) fn write(self) {
-        let mut out = Out::new();
+    // Through the lent bytes, of which the answer compared last is let go: new ones would be cleared for each group.
+    pub(crate) fn write(self, out: &mut Out) {
+        out.waiting.clear();
         out.put(self);
         out.flush();
     }

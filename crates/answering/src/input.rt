@@ -53,10 +53,17 @@ impl Reader {
         if self.known {
             self.compare_line();
         } else {
-            write_line(self.line.as_slice(), false, &mut self.out);
+            self.write_line();
             self.out.push(b'\n');
         }
         self.line.clear();
+    }
+
+    // An empty line has an empty answer. It is asked here: `answer::write_line` clears its room for a line before it asks anything.
+    fn write_line(&mut self) {
+        if !self.line.is_empty() {
+            write_line(self.line.as_slice(), false, &mut self.out);
+        }
     }
 
     // A heading ends a group and begins another; any other line has a rule, and with the bar its answer.
@@ -73,9 +80,9 @@ impl Reader {
         }
     }
 
-    fn end_group(&self) {
+    fn end_group(&mut self) {
         if let Some(group) = self.group {
-            group.write();
+            group.write(&mut self.out);
         }
     }
 
