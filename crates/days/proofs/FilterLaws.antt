@@ -1,7 +1,7 @@
 -- What each filter reads is its list's test.
 -- Assumes nothing.
 use Prim.Native.Nat.{ℕ, zero, suc, ◌+◌, ◌-◌, ◌%◌, ◌≤◌, ◌<◌}
-use mathlib.Core.Path.{◌≡◌, refl, ap, ◌∙◌}
+use mathlib.Core.Path.{◌≡◌, refl, sym, ap, ◌∙◌}
 use mathlib.Core.Bool.{Bool, true, false, not, ◌&&◌, ◌||◌}
 use mathlib.Core.List.{List}
 use lib.IntN.{pos, neg_ℤ}
@@ -81,3 +81,10 @@ some_filters a info l i h =
     (where_asked a.yearday (yearday_at info.year.long info.year.nextlong l.byyearday i))
     (where_asked a.weekno (get_or info.weeks i false))
     (where_asked a.day (weekday_at a.nth info.year.first l.byday info.nths i)))
+
+-- The filters are asked one behind another: here one filters the place out, or it doesn't and a later one tells.
+pub told_here : (r n rest : Bool) → r ≡ n → r ≡ true → r ≡ (n || rest)
+told_here r n rest e h = rw (sym e ∙ h) h
+
+pub told_later : (r s n rest : Bool) → s ≡ n → s ≡ false → r ≡ rest → r ≡ (n || rest)
+told_later r s n rest e h later = rw (sym e ∙ h) later

@@ -99,8 +99,8 @@ pub fn is_filtered(asked: Asked, rule: &Rule, info: &IterInfo, place: usize) -> 
         return true;
     }
     is_filtered_by_month(asked.month, rule, info, place)
-        | (is_filtered_by_month_day(asked.monthday, rule, info, place)
-            | (is_filtered_by_year_day(asked.yearday, rule, info, place)
-                | (is_filtered_by_week_number(asked.weekno, info, place)
-                    | is_filtered_by_weekday(asked, rule, info, place))))
+        || (is_filtered_by_month_day(asked.monthday, rule, info, place)
+            || (is_filtered_by_year_day(asked.yearday, rule, info, place)
+                || (is_filtered_by_week_number(asked.weekno, info, place)
+                    || is_filtered_by_weekday(asked, rule, info, place))))
 }
