@@ -1,7 +1,8 @@
 // The increments of a counter.
-ghost use Rattle.std.specs.Prelude.{◌≡◌, false, ◌+◌, ◌-◌, ◌*◌, ◌/◌, ◌%◌, ◌<◌, ◌≤◌};
+ghost use Rattle.std.specs.Prelude.{◌≡◌, true, false, ◌+◌, ◌-◌, ◌*◌, ◌/◌, ◌%◌, ◌<◌, ◌≤◌};
+ghost use Rattle.rule.specs.Filling.{is_below};
 ghost use Rattle.rule.specs.Moves.{ticks};
-ghost use Rattle.periods.specs.Counters.{limit_of, below};
+ghost use Rattle.periods.specs.Counters.{step_of, limit_of, below};
 ghost use Rattle.ticks.specs.Ticks.{tick_on, first_tick};
 ghost use Rattle.moves.specs.Increments.{ahead, skipped, arrive, fits, incremented};
 
@@ -9,7 +10,7 @@ use calendar::utils::RANGE_END;
 use machine::Cause;
 use periods::counter_date::{Counter, in_range, limit_of, step_of};
 use rule::rrule::Frequency;
-use ticks::counter_date::{find_tick, ticks_of};
+use ticks::counter_date::find_tick;
 
 // Whether a counter may be that of a period in range, where numbers stay below a limit and a day has so many periods.
 fn can_move(interval: u64, counter: Counter, limit: u64, perday: u64) -> bool
@@ -69,12 +70,16 @@ fn set_off(grid: Grid, counter: Counter, passes: bool) -> Counter
     }
 }
 
-// How many midnights n periods lead past.
+// How many midnights n periods lead past. Most moves lead past none, and cost no division.
 fn midnights(grid: Grid, tick: u64, n: u64) -> u64
     requires { (tick < grid.perday) × (grid.perday ≤ 86400) × (grid.step ≤ 65535) × (n ≤ 86400) }
     ensures { result ≡ (tick + n * grid.step) / grid.perday }
 {
-    (tick + n * grid.step) / grid.perday
+    let sum = tick + n * grid.step;
+    if sum < grid.perday {
+        return 0;
+    }
+    sum / grid.perday
 }
 
 // The counter n periods on, whose tick is known: the days that they lead past are counted at once.
@@ -107,6 +112,26 @@ fn next_tick(
     }
 }
 
+// Below DAILY, on a frequency's grid. It is compiled into each arm of `increment`, where perday is a number that the compiler knows.
+#[inline(always)]
+fn increment_on(
+    freq: Frequency,
+    grid: Grid,
+    counter: Counter,
+    passes: bool,
+    clock: &[bool; 144],
+) -> Result<Counter, Cause>
+    requires grid_of { (grid.perday ≡ ticks freq) × (grid.step ≤ 65535) }
+    requires fine { (is_below Frequency.Daily freq ≡ true) × (limit_of freq ≡ 3652059) × (step_of freq grid.step ≡ grid.step) }
+    ensures { result ≡ incremented freq grid.step counter passes clock.now }
+{
+    if !can_move(grid.step, counter, RANGE_END, grid.perday) {
+        return Err(Cause::Range);
+    }
+    let from = set_off(grid, counter, passes);
+    next_tick(freq, grid, from, clock)
+}
+
 // The move from a period, whose day passes or not; the clock has the flags of the hours, minutes and seconds that pass, in a row.
 pub fn increment(
     freq: Frequency,
@@ -117,20 +142,30 @@ pub fn increment(
 ) -> Result<Counter, Cause>
     ensures { result ≡ incremented freq interval counter passes clock.now }
 {
-    let step = step_of(freq, interval);
-    let limit = limit_of(freq);
-    let perday = ticks_of(freq);
-    if !can_move(interval as u64, counter, limit, perday) {
-        return Err(Cause::Range);
-    }
+    let step = interval as u64;
     match freq {
         Frequency::Yearly | Frequency::Monthly | Frequency::Weekly | Frequency::Daily => {
-            next_period(counter, step, limit)
+            let limit = limit_of(freq);
+            if !can_move(step, counter, limit, 1) {
+                return Err(Cause::Range);
+            }
+            next_period(counter, step_of(freq, interval), limit)
         }
-        Frequency::Hourly | Frequency::Minutely | Frequency::Secondly => {
-            let grid = Grid { perday, step };
-            let from = set_off(grid, counter, passes);
-            next_tick(freq, grid, from, clock)
+        Frequency::Hourly => increment_on(freq, Grid { perday: 24, step }, counter, passes, clock),
+        Frequency::Minutely => {
+            increment_on(freq, Grid { perday: 1440, step }, counter, passes, clock)
+        }
+        Frequency::Secondly => {
+            increment_on(
+                freq,
+                Grid {
+                    perday: 86400,
+                    step,
+                },
+                counter,
+                passes,
+                clock,
+            )
         }
     }
 }
