@@ -29,7 +29,8 @@ pub returns-else-not-can_move : goal.returns-else-not-can_move
 returns-else-not-can_move c =
     let kind = is_coarse c.args.freq c.in-Yearly.is in
     c.next_period.ensures
-    ∙ by_period _ _ _ _ _ _ _ (stood (goal.at.returns-else-not-can_move c).Else-not-can_move) kind.0 kind.1 (sym c.step_of.ensures) (sym c.limit_of-limit.ensures)
+    ∙ by_period _ _ _ _ _ _ _ (stood (goal.at.returns-else-not-can_move c).Else-not-can_move) kind.0 kind.1
+    (sym c.step_of.ensures) (sym c.limit_of-limit.ensures)
 
 -- each arm below DAILY has its own grid
 pub increment_on-requires : goal.increment_on-requires
