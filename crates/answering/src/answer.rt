@@ -31,7 +31,7 @@ fn write_answer(line: &Line, known: bool, out: &mut Out) {
     }
 }
 
-// The record that the check answers: a blank one where it refuses.
+// The record that the check answers; where it refuses, which gives none, a blank one stands beside the refusal.
 fn write_checked(checked: Result<Rule, Refusal>, out: &mut Out) {
     match checked {
         Ok(rule) => {
